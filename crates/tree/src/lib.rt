@@ -1,0 +1,2 @@
+//! Solution trees: the nodes that they are written in.
+pub mod node;
