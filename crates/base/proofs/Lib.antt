@@ -1,0 +1,3 @@
+pub mod Fill
+pub mod Loops
+pub mod Gcds

@@ -1,0 +1,24 @@
+use borrow.Author.Needs.{needs}
+use mathlib.Core.Path.{_≡_, sym, ap, subst, _∙_}
+use mathlib.Core.List.{map}
+use Prim.Native.Nat.{_≤_, _^_}
+use native.Mathlib.Omega.{arith}
+use lib.IntN.{pos, natAbs, negℤ, _-ℤ_}
+use lib.ListN.{getD, set}
+use mir.Val.{SFits}
+use mir.Syntax.{w64}
+use Rattle.std.proofs.shelf.Lists.{getD-map}
+use Rattle.std.proofs.shelf.Signed.{ints, toZ-ofZ}
+use Rattle.base.proofs.form.opposite.Needs as need
+
+pub sub-other : need.sub-other
+sub-other c =
+    let C = c .args .form .now in
+    let e : getD (c .negate .last .xs) 9 (pos 0) ≡ negℤ (getD C 9 (pos 0)) = ap (λ l. getD l 9 (pos 0)) (c .negate .ensures) ∙ getD-map negℤ C 9 (pos 0) (pos 0) (omega arith) in
+    omega (arith, ints, e, c .pre 9)
+
+pub returns : need.returns
+returns c =
+    let C = c .args .form .now in
+    let e : getD (c .negate .last .xs) 9 (pos 0) ≡ negℤ (getD C 9 (pos 0)) = ap (λ l. getD l 9 (pos 0)) (c .negate .ensures) ∙ getD-map negℤ C 9 (pos 0) (pos 0) (omega arith) in
+    ap (set (c .negate .last .xs) 9) (omega (arith, ints, e, c .pre 9)) ∙ ap (λ l. set l 9 (negℤ (getD C 9 (pos 0)) -ℤ pos 1)) (c .negate .ensures)

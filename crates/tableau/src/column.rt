@@ -1,0 +1,64 @@
+//! The entering column.
+ghost use mathlib.Core.Path.{_≡_};
+ghost use Prim.Native.Nat.{ℕ, _<_, _≤_};
+ghost use lib.ListN.{getD};
+ghost use lib.IntN.{pos};
+ghost use Rattle.base.specs.Numbers.{at};
+ghost use Rattle.tableau.specs.Columns.{Enters, beats, better, entering, pivotPlace};
+ghost use Rattle.tableau.specs.Tables.{Ready, noRow, top};
+use crate::row::times;
+use crate::table::COLUMNS;
+use crate::table::Table;
+
+/// Inner: whether column j beats column l as the entering column of row i.
+pub fn beats(t: &Table, i: usize, j: usize, l: usize) -> bool
+    requires ready { ⌜ Ready (now t) ⌝ }
+    requires row { ⌜ i < now t .count ⌝ }
+    requires columns { ⌜ (j < 9) × (l < 9) ⌝ }
+    ensures { λ r. ⌜ r ≡ beats (top (now (t .entry))) (getD (now (t .entry) .rows) i noRow) j l ⌝ }
+{
+    for h in 0..t.unknowns {
+        let x = times(t.rows[h].coefs[j], t.rows[i].coefs[l]);
+        let y = times(t.rows[h].coefs[l], t.rows[i].coefs[j]);
+        if x != y {
+            return x < y;
+        }
+    }
+    false
+}
+
+/// The better one of column j and the best so far.
+fn better(t: &Table, i: usize, j: usize, best: Option<usize>) -> Option<usize> {
+    match best {
+        Some(l) => if beats(t, i, j, l) { Some(j) } else { Some(l) },
+        None => Some(j),
+    }
+}
+
+/// Inner: the column in which row i enters the basis; none if no number of the row is above 0.
+pub fn entering(t: &Table, i: usize) -> Option<usize>
+    requires ready { ⌜ Ready (now t) ⌝ }
+    requires row { ⌜ i < now t .count ⌝ }
+    ensures value { λ r. ⌜ r ≡ entering (top (now (t .entry))) (getD (now (t .entry) .rows) i noRow) ⌝ }
+    ensures best { λ r. ⌜ Enters (top (now (t .entry))) (getD (now (t .entry) .rows) i noRow) r ⌝ }
+{
+    let mut best = None;
+    for j in 0..COLUMNS {
+        if t.rows[i].coefs[j] > 0 {
+            best = better(t, i, j, best);
+        }
+    }
+    best
+}
+
+/// Inner: the pivot place of row i, as a row and a column.
+pub fn pivot_place(t: &Table, i: usize) -> Option<(usize, usize)>
+    requires ready { ⌜ Ready (now t) ⌝ }
+    requires row { ⌜ i < now t .count ⌝ }
+    ensures { λ r. ⌜ r ≡ pivotPlace (now (t .entry)) i ⌝ }
+{
+    match entering(t, i) {
+        Some(j) => Some((i, j)),
+        None => None,
+    }
+}
