@@ -1,0 +1,34 @@
+//! Steps and nodes, counted in each result.
+use base::refusal::Met;
+use base::refusal::Place;
+use base::refusal::Refusal;
+
+/// The steps made and the nodes written so far.
+#[derive(Clone, Copy)]
+pub struct Count {
+    pub steps: u32,
+    pub nodes: usize,
+}
+
+impl Count {
+    /// How far the run has come, for a refusal met at this place.
+    pub fn met(self, place: Place) -> Met {
+        Met { steps: self.steps, place }
+    }
+}
+
+/// One step more, where fuel is left.
+pub fn tick(place: Place, fuel: u32, count: Count) -> Result<Count, Refusal> {
+    if count.steps >= fuel {
+        return Err(Refusal::FuelSpent(count.met(place)));
+    }
+    Ok(Count { steps: count.steps + 1, nodes: count.nodes })
+}
+
+/// The refusal of a step that may not be made: spent fuel is said first.
+pub fn barred(refusal: Refusal, place: Place, fuel: u32, count: Count) -> Refusal {
+    if count.steps >= fuel {
+        return Refusal::FuelSpent(count.met(place));
+    }
+    refusal
+}

@@ -1,0 +1,86 @@
+//! The sign of a form where the context holds.
+use base::form::CONSTANT;
+use base::form::Form;
+use base::form::opposite;
+use base::refusal::Refusal;
+use crate::context::Context;
+use crate::count::Count;
+use crate::test::test_with;
+use tableau::table::Table;
+
+/// The sign of a form at the settings that meet the context.
+#[derive(Clone, Copy)]
+pub enum Sign {
+    NonNegative,
+    Negative,
+    Unknown,
+}
+
+/// What the signs of a table's rows say: the first negative row, else the first unknown one.
+#[derive(Clone, Copy)]
+pub enum Scan {
+    Negative(usize),
+    Unsure(usize),
+    Clear,
+}
+
+/// Whether no number of the form is below 0.
+fn none_below(form: &Form) -> bool {
+    for x in form.iter() {
+        if *x < 0 {
+            return false;
+        }
+    }
+    true
+}
+
+/// Whether no number of the form is above 0.
+fn none_above(form: &Form) -> bool {
+    for x in form.iter() {
+        if *x > 0 {
+            return false;
+        }
+    }
+    true
+}
+
+/// The sign of a form: by two quick rules, else by two tests of the context.
+pub fn sign(form: &Form, ctx: &mut Context, fuel: u32, count: Count) -> Result<(Sign, Count), Refusal> {
+    if none_below(form) {
+        return Ok((Sign::NonNegative, count));
+    }
+    if form[CONSTANT] < 0 && none_above(form) {
+        return Ok((Sign::Negative, count));
+    }
+    let (below, count) = test_with(ctx, &opposite(form), fuel, count)?;
+    if !below {
+        return Ok((Sign::NonNegative, count));
+    }
+    let (above, count) = test_with(ctx, form, fuel, count)?;
+    if above { Ok((Sign::Unknown, count)) } else { Ok((Sign::Negative, count)) }
+}
+
+/// The signs of the rows in order, up to the first negative one.
+pub fn scan(t: &Table, ctx: &mut Context, fuel: u32, start: Count) -> Result<(Scan, Count), Refusal> {
+    let mut found = Scan::Clear;
+    let mut count = start;
+    for h in 0..t.count {
+        let (s, next) = sign(&t.rows[h].form, ctx, fuel, count)?;
+        count = next;
+        match s {
+            Sign::NonNegative => {}
+            Sign::Negative => return Ok((Scan::Negative(h), count)),
+            Sign::Unknown => found = first_unsure(found, h),
+        }
+    }
+    Ok((found, count))
+}
+
+/// The first unknown row is remembered.
+fn first_unsure(found: Scan, h: usize) -> Scan {
+    match found {
+        Scan::Clear => Scan::Unsure(h),
+        Scan::Unsure(k) => Scan::Unsure(k),
+        Scan::Negative(k) => Scan::Negative(k),
+    }
+}

@@ -1,0 +1,11 @@
+//! What the work at a node goes on from.
+use crate::context::Context;
+use tableau::table::Table;
+
+/// Table and context, by value, and the cuts made on the path. Each branch of a split has its own.
+#[derive(Clone, Copy)]
+pub struct State {
+    pub table: Table,
+    pub context: Context,
+    pub cuts: usize,
+}
