@@ -1,7 +1,9 @@
 //! The row source: a system whose rows are given one by one.
-ghost use mathlib.Core.Path.{_≡_};
 ghost use Prim.Native.Nat.{_≤_};
-ghost use lib.ListN.{length};
+use crate::limits::MAX_CONTEXT_ROW_LENGTH;
+use crate::limits::MAX_CONTEXT_ROWS;
+use crate::limits::MAX_ROW_LENGTH;
+use crate::limits::MAX_ROWS;
 
 pub mod acts;
 
@@ -13,8 +15,8 @@ pub struct RowSource {
     p: usize,
     row_count: usize,
     context_count: usize,
-    rows: [[i64; 11]; 16],
-    context: [[i64; 5]; 8],
+    rows: [[i64; MAX_ROW_LENGTH]; MAX_ROWS],
+    context: [[i64; MAX_CONTEXT_ROW_LENGTH]; MAX_CONTEXT_ROWS],
     ghost some_unknown: { 1 ≤ n },
     ghost unknowns_fit: { n ≤ 6 },
     ghost parameters_fit: { p ≤ 4 },
