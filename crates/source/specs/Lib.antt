@@ -1,0 +1,4 @@
+pub mod Systems
+pub mod Limits
+pub mod Enters
+pub mod RowSources

@@ -1,0 +1,4 @@
+//! Systems of linear inequalities: what one means, and where one comes from.
+pub mod limits;
+pub mod rows;
+pub mod source;
