@@ -2,6 +2,7 @@
 pub mod context;
 pub mod count;
 pub mod node;
+pub mod read;
 pub mod run;
 pub mod settle;
 pub mod sign;
