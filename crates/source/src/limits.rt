@@ -3,7 +3,7 @@ ghost use mathlib.Core.Path.{_≡_};
 ghost use Prim.Native.Nat.{_<_};
 ghost use lib.ListN.{length};
 ghost use Rattle.std.specs.Vec.{made};
-ghost use Rattle.source.specs.Limits.{countsAnswer, firstOutside, numbersAnswer, rowAnswer};
+ghost use Rattle.source.specs.Limits.{countsAnswer, firstOutside, inLimits, numbersAnswer, rowAnswer};
 use base::refusal::Refusal;
 
 /// A system has 1 to 6 unknowns.
@@ -32,12 +32,19 @@ pub fn check_counts(n: usize, p: usize, m: usize, k: usize) -> Result<(), Refusa
     }
 }
 
+/// Whether a row may have this number.
+pub fn in_limits(x: i64) -> bool
+    ensures value { λ r. ⌜ r ≡ inLimits x ⌝ }
+{
+    x.unsigned_abs() <= MAX_NUMBER
+}
+
 /// The column of the first number that is out of limits.
 fn first_outside(numbers: &[i64]) -> Option<usize>
     ensures value { λ r. ⌜ r ≡ firstOutside 0 (now (numbers .entry)) ⌝ }
 {
     for (column, x) in numbers.iter().enumerate() {
-        if x.unsigned_abs() > MAX_NUMBER {
+        if !in_limits(*x) {
             return Some(column);
         }
     }
