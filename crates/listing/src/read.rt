@@ -2,12 +2,8 @@
 use base::refusal::Refusal;
 use crate::word::first_word;
 use crate::word::number;
-use solver::run::Solved;
-use solver::run::solve_into;
 use source::limits::check_counts;
 use source::rows::RowSource;
-use source::rows::acts::SourceOfRows;
-use tree::node::Node;
 
 /// The longest text of a listing, in bytes.
 pub const LONGEST: usize = 65_536;
@@ -72,10 +68,4 @@ pub fn read(text: &[u8]) -> Result<Listing, Refusal> {
         source.confine(&numbers[at..at + p + 1])?;
     }
     Ok(Listing { source, fuel: numbers[0] })
-}
-
-/// Reads a listing and solves it into the work table.
-pub fn solve_text(text: &[u8], work: &mut [Node]) -> Result<Solved, Refusal> {
-    let listing = read(text)?;
-    solve_into(&listing.source, work, listing.fuel)
 }

@@ -1,15 +1,14 @@
 //! Showing an answer.
 use base::refusal::Refusal;
-use solver::run::Solved;
 use std::fmt;
 use tree::node::Node;
 use tree::node::NodeForm;
 
-/// What a solve of a listing came to, with the work table that it was solved into.
+/// What a solve of a listing came to: the nodes of its tree and the steps made, or a refusal.
 #[derive(Drop)]
-pub struct Shown<'a> {
-    pub answer: Result<Solved, Refusal>,
-    pub work: &'a [Node],
+pub enum Shown<'a> {
+    Tree { nodes: &'a [Node], steps: u32 },
+    Refused(Refusal),
 }
 
 fn write_numbers<W: fmt::Write>(f: &mut fmt::Formatter<W>, form: &NodeForm) -> fmt::Result {
@@ -58,15 +57,15 @@ fn unknowns_of(nodes: &[Node]) -> u8 {
 
 pub impl fmt::Display for Shown<'_> as ShownDisplay {
     fn fmt<W: fmt::Write>(&self, f: &mut fmt::Formatter<W>) -> fmt::Result {
-        match self.answer {
-            Ok(solved) => {
-                let unknowns = unknowns_of(self.work);
-                for node in self.work.iter().take(solved.nodes) {
+        match self {
+            Shown::Tree { nodes, steps } => {
+                let unknowns = unknowns_of(nodes);
+                for node in nodes.iter() {
                     write_node(f, node, unknowns)?;
                 }
-                writeln!(f, "steps {}", solved.steps)
+                writeln!(f, "steps {}", *steps)
             }
-            Err(refusal) => writeln!(f, "refused {}", refusal.number()),
+            Shown::Refused(refusal) => writeln!(f, "refused {}", refusal.number()),
         }
     }
 }
