@@ -39,7 +39,9 @@ fn plus_product(sum: Sum, x: i64, y: i64) -> Sum
     requires small_y { ⌜ natAbs y ≤ 2 ^ 27 ⌝ }
     ensures { λ r. ⌜ r .value ≡ sum .value +ℤ (x *ℤ y) ⌝ }
 {
-    Sum { value: sum.value + x * y }
+    Sum {
+        value: sum.value + x * y,
+    }
 }
 
 /// Inner: the value of a form at a setting, whose numbers are at most 2^27 in size.
@@ -48,7 +50,9 @@ pub fn value(form: &Form, setting: &Setting) -> i64
     requires small_setting { ⌜ AllWithin (2 ^ 27) (now setting) ⌝ }
     ensures { λ r. ⌜ r ≡ valueAt (now (form .entry)) (now (setting .entry)) ⌝ }
 {
-    let mut sum = Sum { value: form[CONSTANT] };
+    let mut sum = Sum {
+        value: form[CONSTANT],
+    };
     for k in 0..CONSTANT {
         sum = plus_product(sum, form[k], setting[k]);
     }

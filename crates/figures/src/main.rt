@@ -13,7 +13,10 @@ fn show_answer(rt: &LibcRuntime, line: &str) -> Result<(), AnyError> {
     let mut work = [Node::None; WORK];
     let answer = solve_text(line.as_bytes(), &mut work);
     println!(rt, "# {line}")?;
-    rt.print(Shown { answer, work: &work })?;
+    rt.print(Shown {
+        answer,
+        work: &work,
+    })?;
     Ok(())
 }
 

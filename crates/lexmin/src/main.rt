@@ -14,7 +14,10 @@ fn run(rt: &LibcRuntime) -> Result<(), AnyError> {
     rt.stdin().read_to_end(&mut text)?;
     let mut work = [Node::None; WORK];
     let answer = solve_text(text.as_slice(), &mut work);
-    rt.print(Shown { answer, work: &work })?;
+    rt.print(Shown {
+        answer,
+        work: &work,
+    })?;
     Ok(())
 }
 

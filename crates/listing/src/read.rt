@@ -1,7 +1,7 @@
 //! Reading a listing.
-use base::refusal::Refusal;
 use crate::word::first_word;
 use crate::word::number;
+use base::refusal::Refusal;
 use source::limits::check_counts;
 use source::rows::RowSource;
 
@@ -29,7 +29,11 @@ fn next_number(text: &[u8]) -> Result<(i64, &[u8]), Refusal> {
 
 /// A count, which is not below 0.
 fn as_count(x: i64) -> Result<usize, Refusal> {
-    if x < 0 { Err(Refusal::Counts) } else { Ok(x as usize) }
+    if x < 0 {
+        Err(Refusal::Counts)
+    } else {
+        Ok(x as usize)
+    }
 }
 
 /// Reads a listing: n p m k fuel, the rows, the context rows.
@@ -67,5 +71,8 @@ pub fn read(text: &[u8]) -> Result<Listing, Refusal> {
         let at = 1 + m * (n + p + 1) + i * (p + 1);
         source.confine(&numbers[at..at + p + 1])?;
     }
-    Ok(Listing { source, fuel: numbers[0] })
+    Ok(Listing {
+        source,
+        fuel: numbers[0],
+    })
 }

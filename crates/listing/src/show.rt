@@ -18,7 +18,11 @@ fn write_numbers<W: fmt::Write>(f: &mut fmt::Formatter<W>, form: &NodeForm) -> f
     writeln!(f, "")
 }
 
-fn write_leaf<W: fmt::Write>(f: &mut fmt::Formatter<W>, forms: &[NodeForm; 6], n: u8) -> fmt::Result {
+fn write_leaf<W: fmt::Write>(
+    f: &mut fmt::Formatter<W>,
+    forms: &[NodeForm; 6],
+    n: u8,
+) -> fmt::Result {
     writeln!(f, "leaf")?;
     for form in forms.iter().take(n as usize) {
         write!(f, "at")?;

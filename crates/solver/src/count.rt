@@ -1,4 +1,7 @@
 //! Steps and nodes, counted in each result.
+ghost use mathlib.Core.Path.{_≡_};
+ghost use Rattle.std.specs.Vec.{made};
+ghost use Rattle.solver.specs.Bounds.{Moved};
 use base::refusal::Met;
 use base::refusal::Place;
 use base::refusal::Refusal;
@@ -12,20 +15,30 @@ pub struct Count {
 
 impl Count {
     /// How far the run has come, for a refusal met at this place.
-    pub fn met(self, place: Place) -> Met {
-        Met { steps: self.steps, place }
+    pub fn met(self, place: Place) -> Met
+        ensures { λ r. ⌜ r ≡ record { steps = self .steps; place = place } ⌝ }
+    {
+        Met {
+            steps: self.steps,
+            place,
+        }
     }
 }
 
-/// One step more, where fuel is left.
-pub fn tick(place: Place, fuel: u32, count: Count) -> Result<Count, Refusal> {
+/// Inner: one step more, where fuel is left.
+pub fn tick(place: Place, fuel: u32, count: Count) -> Result<Count, Refusal>
+    ensures moved { λ r. ⌜ made r (Moved fuel count) ⌝ }
+{
     if count.steps >= fuel {
         return Err(Refusal::FuelSpent(count.met(place)));
     }
-    Ok(Count { steps: count.steps + 1, nodes: count.nodes })
+    Ok(Count {
+        steps: count.steps + 1,
+        nodes: count.nodes,
+    })
 }
 
-/// The refusal of a step that may not be made: spent fuel is said first.
+/// Inner: the refusal of a step that may not be made: spent fuel is said first.
 pub fn barred(refusal: Refusal, place: Place, fuel: u32, count: Count) -> Refusal {
     if count.steps >= fuel {
         return Refusal::FuelSpent(count.met(place));

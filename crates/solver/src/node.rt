@@ -1,9 +1,11 @@
 //! Node work and split, which call each other with the depth left falling.
-use base::divisor::Divisor;
-use base::form::opposite;
-use base::number::divide;
-use base::refusal::Place;
-use base::refusal::Refusal;
+ghost use mathlib.Core.Path.{_≡_};
+ghost use mathlib.Core.Bool.{true};
+ghost use Prim.Native.Nat.{_<_, _≤_};
+ghost use Rattle.std.specs.Vec.{made};
+ghost use Rattle.tableau.specs.Rows.{Sound};
+ghost use Rattle.tableau.specs.Tables.{Ready};
+ghost use Rattle.solver.specs.Bounds.{StateReady, Stepped};
 use crate::context::join;
 use crate::count::Count;
 use crate::count::barred;
@@ -13,6 +15,12 @@ use crate::settle::narrow;
 use crate::settle::settle;
 use crate::settle::write;
 use crate::state::State;
+use base::divisor::Divisor;
+use base::form::Form;
+use base::form::opposite;
+use base::number::divide;
+use base::refusal::Place;
+use base::refusal::Refusal;
 use tableau::table::Row;
 use tableau::table::Table;
 use tree::node::Node;
@@ -22,14 +30,19 @@ use tree::node::NodeForm;
 pub const DEPTH: u8 = 12;
 
 /// The row's form over its divisor, which divides each number of it.
-fn solution(row: &Row) -> NodeForm {
+fn solution(row: &Row) -> NodeForm
+    requires { ⌜ Sound (now row) ⌝ }
+{
     let mut form = row.form;
     divide(Divisor { value: row.div }, &mut form);
     narrow(&form)
 }
 
 /// The leaf of a table: a form for each unknown.
-fn leaf(t: &Table) -> Node {
+fn leaf_of(t: &Table) -> Node
+    requires ready { ⌜ Ready (now t) ⌝ }
+    requires few { ⌜ now t .unknowns ≤ 6 ⌝ }
+{
     let mut forms = [[0; 10]; 6];
     for h in 0..t.unknowns {
         forms[h] = solution(&t.rows[h]);
@@ -37,34 +50,64 @@ fn leaf(t: &Table) -> Node {
     Node::Leaf(forms)
 }
 
-/// Inner: the tree of a state, written into the work table; `left` splits may still stand one below
-/// the other.
-pub fn node(state: &mut State, left: u8, fuel: u32, work: &mut [Node], start: Count) -> Result<Count, Refusal> {
+/// Inner: the tree of a state, written into the work table.
+pub fn node(state: &mut State, fuel: u32, work: &mut [Node], start: Count) -> Result<Count, Refusal>
+    requires ready { ⌜ StateReady (now state) ⌝ }
+    requires within { ⌜ start .steps ≤ fuel ⌝ }
+    ensures stepped { λ r. ⌜ made r (Stepped fuel start) ⌝ }
+{
     let (end, count) = settle(state, fuel, work, start)?;
     match end {
-        End::Leaf => write(work, leaf(&state.table), count),
+        End::Leaf => write(work, leaf_of(&state.table), count),
         End::None => write(work, Node::None, count),
-        End::Split(h) => split(state, h, left, fuel, work, count),
+        End::Split(h) => split(state, h, fuel, work, count),
     }
 }
 
 /// The split by the form of row h: the branch where it is at least 0, then the other, each on its own
 /// copy of the state before the split.
-fn split(state: &State, h: usize, left: u8, fuel: u32, work: &mut [Node], start: Count) -> Result<Count, Refusal> {
-    if left == 0 {
-        return Err(barred(Refusal::Depth(start.met(Place::Node)), Place::Node, fuel, start));
+fn split(
+    state: &State,
+    h: usize,
+    fuel: u32,
+    work: &mut [Node],
+    start: Count,
+) -> Result<Count, Refusal>
+    requires ready { ⌜ StateReady (now state) ⌝ }
+    requires row { ⌜ h < now state .table .count ⌝ }
+    requires within { ⌜ start .steps ≤ fuel ⌝ }
+    ensures stepped { λ r. ⌜ made r (Stepped fuel start) ⌝ }
+{
+    if state.left == 0 {
+        return Err(barred(
+            Refusal::Depth(start.met(Place::Node)),
+            Place::Node,
+            fuel,
+            start,
+        ));
     }
     let form = state.table.rows[h].form;
     let count = tick(Place::Node, fuel, start)?;
     let count = write(work, Node::Split(narrow(&form)), count)?;
     let mut first = *state;
-    if !join(&mut first.context, &form) {
+    if !branch(&mut first, &form) {
         return Err(Refusal::Range(count.met(Place::Node)));
     }
-    let count = node(&mut first, left - 1, fuel, work, count)?;
+    let count = node(&mut first, fuel, work, count)?;
     let mut second = *state;
-    if !join(&mut second.context, &opposite(&form)) {
+    if !branch(&mut second, &opposite(&form)) {
         return Err(Refusal::Range(count.met(Place::Node)));
     }
-    node(&mut second, left - 1, fuel, work, count)
+    node(&mut second, fuel, work, count)
+}
+
+/// Makes the state one of a branch: where the form is at least 0, with one split less below it.
+fn branch(state: &mut State, form: &Form) -> bool
+    requires ready { ⌜ StateReady (now state) ⌝ }
+    requires left { ⌜ 0 < now state .left ⌝ }
+    ensures ready { λ r. ⌜ (r ≡ true → StateReady (now (state .exit))) ⌝ }
+    ensures left { λ _. ⌜ now (state .exit) .left < now (state .entry) .left ⌝ }
+{
+    state.left -= 1;
+    join(&mut state.context, form)
 }

@@ -1,14 +1,17 @@
 //! A solve from end to end: the context's own test, head and keeps, the tree.
-use base::refusal::Refusal;
+ghost use mathlib.Core.Path.{_≡_};
+ghost use Prim.Native.Nat.{_≤_};
+ghost use Rattle.std.specs.Vec.{made};
+ghost use Rattle.solver.specs.Bounds.{ContextReady, StateReady, Stepped};
 use crate::context::Context;
 use crate::count::Count;
-use crate::node::DEPTH;
 use crate::node::node;
-use crate::read::read;
+use crate::read::read_state;
 use crate::settle::narrow;
 use crate::settle::write;
 use crate::state::State;
 use crate::test::test;
+use base::refusal::Refusal;
 use source::source::Source;
 use tree::node::Node;
 
@@ -23,7 +26,10 @@ pub struct Solved {
 }
 
 /// The keeps of a tree: the context rows of its system.
-fn write_keeps(ctx: &Context, work: &mut [Node], start: Count) -> Result<Count, Refusal> {
+fn write_keeps(ctx: &Context, work: &mut [Node], start: Count) -> Result<Count, Refusal>
+    requires { ⌜ ContextReady (now ctx) ⌝ }
+    ensures steps { λ r. ⌜ made r (λ c. c .steps ≡ start .steps) ⌝ }
+{
     let mut count = start;
     for k in 0..ctx.count {
         count = write(work, Node::Keep(narrow(&ctx.forms[k])), count)?;
@@ -32,7 +38,10 @@ fn write_keeps(ctx: &Context, work: &mut [Node], start: Count) -> Result<Count, 
 }
 
 /// The run of a state: the context's own test, head and keeps, then the tree.
-fn run(state: &mut State, fuel: u32, work: &mut [Node]) -> Result<Count, Refusal> {
+fn run_state(state: &mut State, fuel: u32, work: &mut [Node]) -> Result<Count, Refusal>
+    requires { ⌜ StateReady (now state) ⌝ }
+    ensures stepped { λ r. ⌜ made r (λ c. c .steps ≤ fuel) ⌝ }
+{
     let (met, count) = test(&state.context, fuel, Count { steps: 0, nodes: 0 })?;
     if !met {
         return Err(Refusal::NoParameterPoint);
@@ -41,16 +50,16 @@ fn run(state: &mut State, fuel: u32, work: &mut [Node]) -> Result<Count, Refusal
     let p = state.context.parameters as u8;
     let count = write(work, Node::Head { n, p }, count)?;
     let count = write_keeps(&state.context, work, count)?;
-    node(state, DEPTH, fuel, work, count)
+    node(state, fuel, work, count)
 }
 
 /// Reads the system, then the fuel, and runs it.
 fn read_and_run<S: Source>(source: &S, work: &mut [Node], fuel: i64) -> Result<Count, Refusal> {
-    let mut state = read(source)?;
+    let mut state = read_state(source)?;
     if fuel < 0 || fuel > FUEL {
         return Err(Refusal::Fuel);
     }
-    run(&mut state, fuel as u32, work)
+    run_state(&mut state, fuel as u32, work)
 }
 
 /// Blanks all nodes.
@@ -65,7 +74,10 @@ fn blank(work: &mut [Node]) {
 pub fn solve_into<S: Source>(source: &S, work: &mut [Node], fuel: i64) -> Result<Solved, Refusal> {
     blank(work);
     match read_and_run(source, work, fuel) {
-        Ok(count) => Ok(Solved { steps: count.steps, nodes: count.nodes }),
+        Ok(count) => Ok(Solved {
+            steps: count.steps,
+            nodes: count.nodes,
+        }),
         Err(refusal) => {
             blank(work);
             Err(refusal)

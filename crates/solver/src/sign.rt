@@ -1,11 +1,17 @@
 //! The sign of a form where the context holds.
+ghost use mathlib.Core.Path.{_≡_};
+ghost use Prim.Native.Nat.{_+_, _^_, _<_, _≤_};
+ghost use Rattle.std.specs.Vec.{made};
+ghost use Rattle.base.specs.Numbers.{AllWithin};
+ghost use Rattle.tableau.specs.Tables.{Ready};
+ghost use Rattle.solver.specs.Bounds.{ContextReady, SameContext, ScanBelow, Stepped};
+use crate::context::Context;
+use crate::count::Count;
+use crate::test::test_with;
 use base::form::CONSTANT;
 use base::form::Form;
 use base::form::opposite;
 use base::refusal::Refusal;
-use crate::context::Context;
-use crate::count::Count;
-use crate::test::test_with;
 use tableau::table::Table;
 
 /// The sign of a form at the settings that meet the context.
@@ -44,8 +50,20 @@ fn none_above(form: &Form) -> bool {
     true
 }
 
-/// The sign of a form: by two quick rules, else by two tests of the context.
-pub fn sign(form: &Form, ctx: &mut Context, fuel: u32, count: Count) -> Result<(Sign, Count), Refusal> {
+/// Inner: the sign of a form: by two quick rules, else by two tests of the context.
+pub fn sign_of(
+    form: &Form,
+    ctx: &mut Context,
+    fuel: u32,
+    count: Count,
+) -> Result<(Sign, Count), Refusal>
+    requires small { ⌜ AllWithin (2 ^ 30) (now form) ⌝ }
+    requires ready { ⌜ ContextReady (now ctx) ⌝ }
+    requires room { ⌜ now ctx .count < 31 ⌝ }
+    requires within { ⌜ count .steps ≤ fuel ⌝ }
+    ensures kept { λ _. ⌜ SameContext (now (ctx .entry)) (now (ctx .exit)) ⌝ }
+    ensures stepped { λ r. ⌜ made r (λ v. Stepped fuel count (v .1)) ⌝ }
+{
     if none_below(form) {
         return Ok((Sign::NonNegative, count));
     }
@@ -57,15 +75,32 @@ pub fn sign(form: &Form, ctx: &mut Context, fuel: u32, count: Count) -> Result<(
         return Ok((Sign::NonNegative, count));
     }
     let (above, count) = test_with(ctx, form, fuel, count)?;
-    if above { Ok((Sign::Unknown, count)) } else { Ok((Sign::Negative, count)) }
+    if above {
+        Ok((Sign::Unknown, count))
+    } else {
+        Ok((Sign::Negative, count))
+    }
 }
 
-/// The signs of the rows in order, up to the first negative one.
-pub fn scan(t: &Table, ctx: &mut Context, fuel: u32, start: Count) -> Result<(Scan, Count), Refusal> {
+/// Inner: the signs of the rows in order, up to the first negative one.
+pub fn scan_rows(
+    t: &Table,
+    ctx: &mut Context,
+    fuel: u32,
+    start: Count,
+) -> Result<(Scan, Count), Refusal>
+    requires table { ⌜ Ready (now t) ⌝ }
+    requires ready { ⌜ ContextReady (now ctx) ⌝ }
+    requires room { ⌜ now ctx .count < 31 ⌝ }
+    requires within { ⌜ start .steps ≤ fuel ⌝ }
+    ensures kept { λ _. ⌜ SameContext (now (ctx .entry)) (now (ctx .exit)) ⌝ }
+    ensures inside { λ r. ⌜ made r (λ v. ScanBelow (now (t .entry) .count) (v .0)) ⌝ }
+    ensures stepped { λ r. ⌜ made r (λ v. Stepped fuel start (v .1)) ⌝ }
+{
     let mut found = Scan::Clear;
     let mut count = start;
     for h in 0..t.count {
-        let (s, next) = sign(&t.rows[h].form, ctx, fuel, count)?;
+        let (s, next) = sign_of(&t.rows[h].form, ctx, fuel, count)?;
         count = next;
         match s {
             Sign::NonNegative => {}
@@ -77,7 +112,9 @@ pub fn scan(t: &Table, ctx: &mut Context, fuel: u32, start: Count) -> Result<(Sc
 }
 
 /// The first unknown row is remembered.
-fn first_unsure(found: Scan, h: usize) -> Scan {
+fn first_unsure(found: Scan, h: usize) -> Scan
+    ensures inside { λ r. ⌜ (ScanBelow h found → ScanBelow (h + 1) r) ⌝ }
+{
     match found {
         Scan::Clear => Scan::Unsure(h),
         Scan::Unsure(k) => Scan::Unsure(k),

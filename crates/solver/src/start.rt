@@ -1,45 +1,113 @@
 //! The tables that work starts from.
+ghost use mathlib.Core.Path.{_≡_};
+ghost use Prim.Native.Nat.{_+_, _^_, _<_, _≤_};
+ghost use lib.IntN.{natAbs};
+ghost use Rattle.base.specs.Numbers.{AllWithin};
+ghost use Rattle.tableau.specs.Rows.{Sound};
+ghost use Rattle.tableau.specs.Tables.{Ready};
+ghost use Rattle.solver.specs.Bounds.{ContextReady};
 use crate::context::Context;
 use base::form::CONSTANT;
 use base::form::Form;
+use tableau::table::COLUMNS;
 use tableau::table::Row;
 use tableau::table::Table;
 
 /// A row of zeros.
-pub const BLANK: Row = Row { coefs: [0; 9], form: [0; 10], div: 1 };
+pub const BLANK: Row = Row {
+    coefs: [0; 9],
+    form: [0; 10],
+    div: 1,
+};
+
+/// The place of the first new parameter in a form.
+pub const FIRST_NEW: usize = 4;
+
+/// The row of an unknown: itself.
+fn unit(h: usize) -> Row
+    requires { ⌜ h < 9 ⌝ }
+    ensures sound { λ r. ⌜ Sound r ⌝ }
+{
+    let mut coefs = [0; 9];
+    coefs[h] = 1;
+    Row {
+        coefs,
+        form: [0; 10],
+        div: 1,
+    }
+}
 
 /// Inner: a table whose rows are the unknowns themselves.
-pub fn unit_table(unknowns: usize) -> Table {
-    let mut t = Table { rows: [BLANK; 64], count: unknowns, unknowns };
+pub fn unit_table(unknowns: usize) -> Table
+    requires { ⌜ unknowns ≤ 9 ⌝ }
+    ensures ready { λ r. ⌜ Ready r ⌝ }
+    ensures counts { λ r. ⌜ (r .count ≡ unknowns) × (r .unknowns ≡ unknowns) ⌝ }
+{
+    let mut rows = [BLANK; 64];
     for h in 0..unknowns {
-        t.rows[h].coefs[h] = 1;
+        rows[h] = unit(h);
     }
-    t
+    Table {
+        rows,
+        count: unknowns,
+        unknowns,
+    }
 }
 
 /// Inner: a row added to a table.
-pub fn push_row(t: &mut Table, row: Row) {
+pub fn push_row(t: &mut Table, row: Row)
+    requires ready { ⌜ Ready (now t) ⌝ }
+    requires room { ⌜ now t .count < 64 ⌝ }
+    requires sound { ⌜ Sound row ⌝ }
+    ensures ready { λ _. ⌜ Ready (now (t .exit)) ⌝ }
+    ensures counts { λ _. ⌜ (now (t .exit) .count ≡ now (t .entry) .count + 1) × (now (t .exit) .unknowns ≡ now (t .entry) .unknowns) ⌝ }
+{
     let i = t.count;
     t.rows[i] = row;
     t.count = i + 1;
 }
 
-/// The form as a row of a test: the parameters in use are its unknowns.
-fn test_row(form: &Form, parameters: usize, made: usize) -> Row {
-    let mut row = BLANK;
-    for l in 0..parameters {
-        row.coefs[l] = form[l];
+/// The coefficient of unknown l of a test: the parameters in use come first, then the new ones.
+fn test_coefficient(form: &Form, parameters: usize, made: usize, l: usize) -> i64
+    requires small { ⌜ AllWithin (2 ^ 30) (now form) ⌝ }
+    requires few { ⌜ (parameters ≤ 4) × (made ≤ 5) ⌝ }
+    ensures small { λ r. ⌜ natAbs r ≤ 2 ^ 30 ⌝ }
+{
+    if l < parameters {
+        form[l]
+    } else if l - parameters < made {
+        form[FIRST_NEW + (l - parameters)]
+    } else {
+        0
     }
-    for l in 0..made {
-        row.coefs[parameters + l] = form[4 + l];
+}
+
+/// The form as a row of a test.
+fn test_row(form: &Form, parameters: usize, made: usize) -> Row
+    requires small { ⌜ AllWithin (2 ^ 30) (now form) ⌝ }
+    requires few { ⌜ (parameters ≤ 4) × (made ≤ 5) ⌝ }
+    ensures sound { λ r. ⌜ Sound r ⌝ }
+{
+    let mut coefs = [0; 9];
+    for l in 0..COLUMNS {
+        coefs[l] = test_coefficient(form, parameters, made, l);
     }
-    row.form[CONSTANT] = form[CONSTANT];
-    row
+    let mut constant = [0; 10];
+    constant[CONSTANT] = form[CONSTANT];
+    Row {
+        coefs,
+        form: constant,
+        div: 1,
+    }
 }
 
 /// Inner: the table of a test: its unknowns are the parameters and the new ones so far, its rows the
 /// context.
-pub fn test_table(ctx: &Context) -> Table {
+pub fn test_table(ctx: &Context) -> Table
+    requires { ⌜ ContextReady (now ctx) ⌝ }
+    ensures ready { λ r. ⌜ Ready r ⌝ }
+    ensures counts { λ r. ⌜ (r .count ≡ now (ctx .entry) .parameters + now (ctx .entry) .made + now (ctx .entry) .count) × (r .unknowns ≡ now (ctx .entry) .parameters + now (ctx .entry) .made) ⌝ }
+{
     let mut t = unit_table(ctx.parameters + ctx.made);
     for k in 0..ctx.count {
         push_row(&mut t, test_row(&ctx.forms[k], ctx.parameters, ctx.made));

@@ -1,8 +1,15 @@
 //! The two moves on a table: a pivot, and a row added and pivoted on.
-use base::refusal::Place;
-use base::refusal::Refusal;
+ghost use mathlib.Core.Path.{_≡_};
+ghost use Prim.Native.Nat.{_+_, _<_, _≤_};
+ghost use Rattle.std.specs.Vec.{made};
+ghost use Rattle.tableau.specs.Rows.{Sound};
+ghost use Rattle.tableau.specs.Tables.{PivotAt, Ready};
+ghost use Rattle.solver.specs.Bounds.{Moved, Stepped};
 use crate::count::Count;
 use crate::count::tick;
+use crate::start::push_row;
+use base::refusal::Place;
+use base::refusal::Refusal;
 use tableau::column::pivot_place;
 use tableau::pivot::pivot;
 use tableau::row::fits;
@@ -10,7 +17,19 @@ use tableau::table::Row;
 use tableau::table::Table;
 
 /// Inner: a pivot, which is one step.
-pub fn turn(t: &mut Table, at: (usize, usize), place: Place, fuel: u32, count: Count) -> Result<Count, Refusal> {
+pub fn turn(
+    t: &mut Table,
+    at: (usize, usize),
+    place: Place,
+    fuel: u32,
+    count: Count,
+) -> Result<Count, Refusal>
+    requires ready { ⌜ Ready (now t) ⌝ }
+    requires there { ⌜ PivotAt (now t) at ⌝ }
+    ensures ready { λ r. ⌜ made r (λ _. Ready (now (t .exit))) ⌝ }
+    ensures counts { λ _. ⌜ (now (t .exit) .count ≡ now (t .entry) .count) × (now (t .exit) .unknowns ≡ now (t .entry) .unknowns) ⌝ }
+    ensures moved { λ r. ⌜ made r (Moved fuel count) ⌝ }
+{
     let next = tick(place, fuel, count)?;
     if !pivot(t, at) {
         return Err(Refusal::Range(next.met(place)));
@@ -19,13 +38,26 @@ pub fn turn(t: &mut Table, at: (usize, usize), place: Place, fuel: u32, count: C
 }
 
 /// Inner: adds a cut row last, and pivots on it directly if one of its columns is above 0.
-pub fn add_row(t: &mut Table, row: Row, place: Place, fuel: u32, count: Count) -> Result<Count, Refusal> {
+pub fn add_row(
+    t: &mut Table,
+    row: Row,
+    place: Place,
+    fuel: u32,
+    count: Count,
+) -> Result<Count, Refusal>
+    requires ready { ⌜ Ready (now t) ⌝ }
+    requires room { ⌜ now t .count < 64 ⌝ }
+    requires sound { ⌜ Sound row ⌝ }
+    requires within { ⌜ count .steps ≤ fuel ⌝ }
+    ensures ready { λ r. ⌜ made r (λ _. Ready (now (t .exit))) ⌝ }
+    ensures counts { λ r. ⌜ made r (λ _. (now (t .exit) .count ≡ now (t .entry) .count + 1) × (now (t .exit) .unknowns ≡ now (t .entry) .unknowns)) ⌝ }
+    ensures stepped { λ r. ⌜ made r (Stepped fuel count) ⌝ }
+{
     if !fits(&row) {
         return Err(Refusal::Range(count.met(place)));
     }
     let i = t.count;
-    t.rows[i] = row;
-    t.count = i + 1;
+    push_row(t, row);
     match pivot_place(t, i) {
         Some(at) => turn(t, at, place, fuel, count),
         None => Ok(count),

@@ -3,9 +3,10 @@ use mathlib.Core.Path.{_≡_}
 use mathlib.Core.Logic.{_⊎_}
 use mathlib.Core.List.{List, [], _∷_, _++_, map}
 use Prim.Native.Nat.{ℕ, _<_}
-use lib.IntN.{ℤ, pos, _+ℤ_, _*ℤ_}
+use lib.IntN.{ℤ, pos}
 use lib.ListN.{length, getD}
 use lib.Signed.{_≤ℤ_}
+use Rattle.base.specs.Forms.{dot}
 
 -- n unknowns and p parameters, rows over both, context rows over the parameters alone
 pub record System : Type 0 where
@@ -23,12 +24,6 @@ number S i j = entry (S .rows) i j
 
 abbrev pub contextNumber : System → ℕ → ℕ → ℤ
 contextNumber S i j = entry (S .context) i j
-
--- the sum of the products; the shorter list decides
-abbrev pub dot : List ℤ → List ℤ → ℤ
-dot [] ys = pos 0
-dot (x ∷ xs) [] = pos 0
-dot (x ∷ xs) (y ∷ ys) = x *ℤ y +ℤ dot xs ys
 
 -- the values times their coefficients, plus the last number of the row, are at least 0
 abbrev pub Holds : List ℤ → List ℕ → Type 0

@@ -1,8 +1,9 @@
 //! The limits of a system: how many unknowns, parameters and rows, and how large a number.
 ghost use mathlib.Core.Path.{_≡_};
-ghost use Prim.Native.Nat.{_<_};
+ghost use Prim.Native.Nat.{_<_, _≤_};
 ghost use lib.ListN.{length};
 ghost use Rattle.std.specs.Vec.{made};
+ghost use Rattle.base.specs.Numbers.{AllWithin};
 ghost use Rattle.source.specs.Limits.{countsAnswer, firstOutside, inLimits, numbersAnswer, rowAnswer};
 use base::refusal::Refusal;
 
@@ -24,6 +25,7 @@ pub const MAX_NUMBER: u64 = 1_000_000;
 /// Refuses counts of unknowns, parameters, rows and context rows that no system may have.
 pub fn check_counts(n: usize, p: usize, m: usize, k: usize) -> Result<(), Refusal>
     ensures answer { λ r. ⌜ r ≡ countsAnswer n p m k ⌝ }
+    ensures fits { λ r. ⌜ made r (λ _. (1 ≤ n) × (n ≤ 6) × (p ≤ 4) × (m ≤ 16) × (k ≤ 8)) ⌝ }
 {
     if n < 1 || n > MAX_UNKNOWNS || p > MAX_PARAMETERS || m > MAX_ROWS || k > MAX_CONTEXT_ROWS {
         Err(Refusal::Counts)
@@ -55,6 +57,7 @@ fn first_outside(numbers: &[i64]) -> Option<usize>
 /// row is said here alone.
 pub fn check_numbers(row: usize, numbers: &[i64]) -> Result<(), Refusal>
     ensures answer { λ r. ⌜ r ≡ numbersAnswer row (now (numbers .entry)) ⌝ }
+    ensures small { λ r. ⌜ made r (λ _. AllWithin 1000000 (now (numbers .entry))) ⌝ }
 {
     match first_outside(numbers) {
         Some(column) => Err(Refusal::Number { row, column }),

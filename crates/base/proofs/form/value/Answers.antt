@@ -26,10 +26,10 @@ plus-product-sum-requires c κs =
     let R = c .args .setting .now in
     let fx : SFits w64 (getD C k (pos 0)) = search needs in
     let fy : SFits w64 (getD R k (pos 0)) = search needs in
-    record
-    { small-sum = omega (arith, c .loop-k .inv .0)
-    ; small-x = simp toZ-ofZ (c .pre .small-form k)
-    ; small-y = simp toZ-ofZ (c .pre .small-setting k)
+    record {
+      small-sum = omega (arith, c .loop-k .inv .0);
+      small-x = simp toZ-ofZ (c .pre .small-form k);
+      small-y = simp toZ-ofZ (c .pre .small-setting k);
     }
 
 pub loop-k-again : need.loop-k-again

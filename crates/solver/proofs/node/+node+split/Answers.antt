@@ -1,0 +1,2 @@
+use borrow.Author.Needs.{needs}
+use Rattle.solver.proofs.node.+node+split.Needs as need

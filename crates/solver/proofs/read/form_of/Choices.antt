@@ -1,0 +1,8 @@
+use Prim.Native.Nat.{_^_}
+use mathlib.Core.Path.{_≡_}
+use lib.ListN.{length}
+use Rattle.base.specs.Numbers.{AllWithin}
+use Rattle.solver.proofs.read.form_of.Given as given
+
+abbrev pub Inv-loop-l : given.InvT-loop-l
+Inv-loop-l l = (length (l .form) ≡ 10) × AllWithin (2 ^ 30) (l .form)
