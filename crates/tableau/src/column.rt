@@ -3,9 +3,10 @@ ghost use mathlib.Core.Path.{_≡_};
 ghost use Prim.Native.Nat.{ℕ, _<_, _≤_};
 ghost use lib.ListN.{getD};
 ghost use lib.IntN.{pos};
+ghost use Rattle.std.specs.Options.{Cases};
 ghost use Rattle.base.specs.Numbers.{at};
 ghost use Rattle.tableau.specs.Columns.{Enters, beats, better, entering, pivotPlace};
-ghost use Rattle.tableau.specs.Tables.{Ready, noRow, top};
+ghost use Rattle.tableau.specs.Tables.{PivotAt, Ready, noRow, top};
 use crate::row::times;
 use crate::table::COLUMNS;
 use crate::table::Table;
@@ -28,7 +29,14 @@ pub fn beats(t: &Table, i: usize, j: usize, l: usize) -> bool
 }
 
 /// The better one of column j and the best so far.
-fn better(t: &Table, i: usize, j: usize, best: Option<usize>) -> Option<usize> {
+fn better(t: &Table, i: usize, j: usize, best: Option<usize>) -> Option<usize>
+    requires ready { ⌜ Ready (now t) ⌝ }
+    requires row { ⌜ i < now t .count ⌝ }
+    requires column { ⌜ j < 9 ⌝ }
+    requires before { ⌜ Cases best (Unit {0}) (λ l. l < 9) ⌝ }
+    ensures value { λ r. ⌜ r ≡ better (top (now (t .entry))) (getD (now (t .entry) .rows) i noRow) j best ⌝ }
+    ensures inside { λ r. ⌜ Cases r (Unit {0}) (λ l. l < 9) ⌝ }
+{
     match best {
         Some(l) => if beats(t, i, j, l) { Some(j) } else { Some(l) },
         None => Some(j),
@@ -55,7 +63,8 @@ pub fn entering(t: &Table, i: usize) -> Option<usize>
 pub fn pivot_place(t: &Table, i: usize) -> Option<(usize, usize)>
     requires ready { ⌜ Ready (now t) ⌝ }
     requires row { ⌜ i < now t .count ⌝ }
-    ensures { λ r. ⌜ r ≡ pivotPlace (now (t .entry)) i ⌝ }
+    ensures value { λ r. ⌜ r ≡ pivotPlace (now (t .entry)) i ⌝ }
+    ensures inside { λ r. ⌜ Cases r (Unit {0}) (PivotAt (now (t .entry))) ⌝ }
 {
     match entering(t, i) {
         Some(j) => Some((i, j)),
