@@ -19,17 +19,17 @@ use Rattle.tableau.proofs.column.beats.Needs as need
 pub times-y-requires : need.times-y-requires
 times-y-requires c κs =
     let t = c .args .t .now in
-    let i = getD (t .rows) (c .args .i) noRow in
+    let i = c .args .i .now in
     let h = getD (t .rows) (c .loop-h .h) noRow in
     record {
       small-x = small-bits (2 ^ 30) (at (h .coefs) (c .args .l)) (search needs) (c .pre .ready .sound (c .loop-h .h) (omega arith) .coefs-small (c .args .l));
-      small-y = small-bits (2 ^ 30) (at (i .coefs) (c .args .j)) (search needs) (c .pre .ready .sound (c .args .i) (omega arith) .coefs-small (c .args .j));
+      small-y = small-bits (2 ^ 30) (at (i .coefs) (c .args .j)) (search needs) (c .pre .row .coefs-small (c .args .j));
     }
 
 pub returns-then-x-y : need.returns-then-x-y
 returns-then-x-y c =
     let t = c .args .t .now in
-    let i = getD (t .rows) (c .args .i) noRow in
+    let i = c .args .i .now in
     let h = getD (t .rows) (c .loop-h .h) noRow in
     let j = c .args .j in
     let l = c .args .l in
@@ -46,7 +46,7 @@ returns-then-x-y c =
 pub loop-h-again : need.loop-h-again
 loop-h-again c =
     let t = c .args .t .now in
-    let i = getD (t .rows) (c .args .i) noRow in
+    let i = c .args .i .now in
     let h = getD (t .rows) (c .loop-h .h) noRow in
     let j = c .args .j in
     let l = c .args .l in
@@ -60,4 +60,4 @@ loop-h-again c =
     cc
 
 pub returns : need.returns
-returns c = sym (sym (c .loop-h .inv) ∙ top-all (λ hs. beats hs (getD (c .args .t .now .rows) (c .args .i) noRow) (c .args .j) (c .args .l)) (c .args .t .now) (c .loop-h .h) (c .loop-h-test .left))
+returns c = sym (sym (c .loop-h .inv) ∙ top-all (λ hs. beats hs (c .args .i .now) (c .args .j) (c .args .l)) (c .args .t .now) (c .loop-h .h) (c .loop-h-test .left))

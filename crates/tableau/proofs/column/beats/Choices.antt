@@ -1,8 +1,8 @@
 use mathlib.Core.Path.{_≡_}
-use lib.ListN.{drop, getD}
+use lib.ListN.{drop}
 use Rattle.tableau.specs.Columns.{beats}
-use Rattle.tableau.specs.Tables.{noRow, top}
+use Rattle.tableau.specs.Tables.{top}
 use Rattle.tableau.proofs.column.beats.Given as given
 
 abbrev pub Inv-loop-h : given.InvT-loop-h
-Inv-loop-h l = beats (drop (l .h) (top (l .t))) (getD (l .t .rows) (l .i) noRow) (l .j) (l .l) ≡ beats (top (l .t)) (getD (l .t .rows) (l .i) noRow) (l .j) (l .l)
+Inv-loop-h l = beats (drop (l .h) (top (l .t))) (l .i) (l .j) (l .l) ≡ beats (top (l .t)) (l .i) (l .j) (l .l)
