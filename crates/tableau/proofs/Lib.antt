@@ -1,5 +1,5 @@
-pub mod Products
 pub mod Bits
 pub mod Integers
 pub mod Searches
 pub mod Entering
+pub mod CutRanges
