@@ -1,3 +1,5 @@
 pub mod Fill
 pub mod Loops
+pub mod Products
+pub mod Divisors
 pub mod Gcds
