@@ -1,3 +1,4 @@
+pub mod There
 pub mod Fill
 pub mod Loops
 pub mod Products

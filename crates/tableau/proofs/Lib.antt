@@ -1,0 +1,3 @@
+pub mod Lowest
+pub mod Combined
+pub mod Pivots
