@@ -1,12 +1,13 @@
 -- What a test or a call says of an i64, whose value the code holds as bits.
-use Prim.Native.Nat.{ℕ, zero, suc, _≤_}
+use Prim.Native.Nat.{zero, suc}
 use native.Mathlib.Omega.{arith}
-use mathlib.Core.Path.{_≡_, refl, sym, ap, subst, _∙_}
+use mathlib.Core.Path.{_≡_, refl, sym, ap, _∙_}
 use mathlib.Core.Bool.{true, false}
-use lib.IntN.{ℤ, pos, negsuc, natAbs, _*ℤ_}
+use lib.IntN.{ℤ, pos, negsuc, _*ℤ_}
 use mir.Val.{SFits, toZ, ofZ}
 use mir.Syntax.{w64}
 use Rattle.std.proofs.shelf.Signed.{ints, toZ-ofZ}
+use Rattle.base.proofs.There.{back}
 use Rattle.tableau.specs.Cuts.{isZero}
 
 pub same-bits : (x y : ℤ) → SFits w64 x → SFits w64 y → ofZ w64 x ≡ ofZ w64 y → x ≡ y
@@ -22,8 +23,5 @@ not-zero-bits (pos zero) e = absurd (e refl)
 not-zero-bits (pos (suc n)) e = refl
 not-zero-bits (negsuc n) e = refl
 
-pub small-bits : (m : ℕ) (x : ℤ) → SFits w64 x → natAbs x ≤ m → natAbs (toZ w64 (ofZ w64 x)) ≤ m
-small-bits m x f h = subst (λ z. natAbs z ≤ m) (sym (toZ-ofZ w64 x f)) h
-
 pub product-bits : (r x y : ℤ) → SFits w64 x → SFits w64 y → r ≡ toZ w64 (ofZ w64 x) *ℤ toZ w64 (ofZ w64 y) → r ≡ x *ℤ y
-product-bits r x y f g e = e ∙ ap (λ z. z *ℤ toZ w64 (ofZ w64 y)) (toZ-ofZ w64 x f) ∙ ap (λ z. x *ℤ z) (toZ-ofZ w64 y g)
+product-bits r x y f g e = back (λ y. r ≡ x *ℤ y) y g (back (λ x. r ≡ x *ℤ toZ w64 (ofZ w64 y)) x f e)

@@ -1,7 +1,7 @@
 -- The numbers of a cut, and of what is made of it, are in range.
-use Prim.Native.Nat.{ℕ, zero, suc, _-_, _%_, _<_, _≤_, _^_}
+use Prim.Native.Nat.{ℕ, zero, suc, _-_, _/_, _%_, _<_, _≤_, _^_}
 use native.Mathlib.Omega.{arith}
-use native.Mathlib.Nat.{mod-lt}
+use native.Mathlib.Nat.{div-le-self, mod-lt}
 use mathlib.Core.Path.{_≡_, refl, sym, ap, subst, _∙_}
 use mathlib.Core.List.{List, [], _∷_, map}
 use lib.IntN.{ℤ, pos, negsuc, natAbs, negℤ, _+ℤ_, _-ℤ_}
@@ -10,10 +10,13 @@ use lib.Signed.{_≤ℤ_, _<ℤ_}
 use Rattle.std.specs.declared.option.Option.{Option}
 use Rattle.std.specs.declared.option.Option.the-variants.{Some, None}
 use Rattle.std.proofs.shelf.Signed.{ints}
-use Rattle.base.specs.Numbers.{AllWithin, at, modBy}
+use Rattle.base.specs.Numbers.{AllWithin, at, modBy, quotBy}
+use Rattle.base.proofs.Products.{natAbs-neg}
 use Rattle.tableau.specs.declared.table.Row.{Row}
 use Rattle.tableau.specs.declared.cut.Cut.{Cut}
-use Rattle.tableau.specs.Cuts.{CutSound, cutForm, cutOf, lower, upper}
+use Rattle.tableau.specs.Rows.{Sound, gcdOf, lowest}
+use Rattle.tableau.specs.Cuts.{CutSound, cutForm, cutOf, cutRow, lower, upper}
+use Rattle.tableau.proofs.Lowest.{gcdOf-lowest, lowest-above}
 
 -- ---- lists: past the end there is 0
 map-all : (P : ℤ → Type 0) (f : ℤ → ℤ) (xs : List ℤ) → P (pos 0) → ((k : ℕ) → P (f (at xs k))) → (k : ℕ) → P (at (map f xs) k)
@@ -58,6 +61,27 @@ cut-is r coefs form d e p q =
     let q′ = q ∙ ap (λ z. map (modBy z) (map negℤ (r .form))) e in
     λ k. record { coefs = p′ k; form = q′ k; div = e k }
 
+-- ---- a row in range is sound in lowest terms
+quot-small : (g : ℕ) (x : ℤ) → natAbs (quotBy (pos g) x) ≤ natAbs x
+quot-small g (pos x) = div-le-self x g
+quot-small g (negsuc x) = rw (natAbs-neg (pos (suc x / g))) (div-le-self (suc x) g)
+
+pub small-lowest : (r : Row) → pos 1 ≤ℤ r .div → AllWithin (2 ^ 30) (r .coefs) → AllWithin (2 ^ 30) (r .form) → r .div ≤ℤ pos (2 ^ 30) → Sound (lowest r)
+small-lowest r h coefs form d =
+    let g = gcdOf r in
+    let low = lowest r .div in
+    let above : pos 0 <ℤ r .div = omega (arith, ints) in
+    let a = lowest-above r above in
+    let quots : (xs : List ℤ) → AllWithin (2 ^ 30) xs → AllWithin (2 ^ 30) (map (quotBy (pos g)) xs) =
+    λ xs p. map-all (λ x. natAbs x ≤ 2 ^ 30) (quotBy (pos g)) xs (omega arith) (λ k. omega (arith, p k, quot-small g (at xs k))) in
+    record {
+      coefs-small = quots (r .coefs) coefs;
+      form-small = quots (r .form) form;
+      above = a;
+      below = omega (arith, ints, a, d, quot-small g (r .div));
+      alone = gcdOf-lowest r above;
+    }
+
 -- ---- what is made of a cut
 module _ (c : Cut) (s : CutSound c) where
   pub cut-above : pos 1 ≤ℤ c .div
@@ -78,3 +102,6 @@ module _ (c : Cut) (s : CutSound c) where
 
   pub upper-small : (q : ℕ) → AllWithin (2 ^ 30) (upper c q)
   upper-small q = set-all (λ x. natAbs x ≤ 2 ^ 30) (set (map negℤ (c .form)) q (c .div)) 9 (negℤ (at (c .form) 9) +ℤ (c .div -ℤ pos 1)) (omega arith) (omega (arith, ints, s .form-low 9, s .form-high 9, s .below)) (cut-form-small (Some q))
+
+  pub cut-row-sound : (new : Option ℕ) → Sound (cutRow c new)
+  cut-row-sound new = small-lowest (record { coefs = c .coefs; form = cutForm c new; div = c .div }) cut-above cut-coefs-small (cut-form-small new) (s .below)

@@ -1,18 +1,19 @@
 use borrow.Author.Needs.{needs}
 use mathlib.Core.Path.{_≡_, sym, ap, _∙_}
 use mathlib.Core.Bool.{true, false}
-use Prim.Native.Nat.{_+_, _<_, _^_}
+use Prim.Native.Nat.{_+_, _≤_, _^_}
 use native.Mathlib.Omega.{arith}
-use lib.IntN.{pos, _*ℤ_}
+use lib.IntN.{natAbs}
 use lib.ListN.{drop, getD}
 use lib.Signed.{ltZ}
 use mir.Val.{SFits, ofZ}
 use mir.Syntax.{w64}
 use Rattle.std.proofs.shelf.Signed.{toZ-ofZ}
 use Rattle.base.specs.Numbers.{at}
+use Rattle.base.proofs.There.{forth}
 use Rattle.tableau.specs.Columns.{beats}
 use Rattle.tableau.specs.Tables.{noRow, top}
-use Rattle.tableau.proofs.Bits.{product-bits, same-bits, small-bits}
+use Rattle.tableau.proofs.Bits.{product-bits, same-bits}
 use Rattle.tableau.proofs.Searches.{top-more, top-all, less-differ, less-same}
 use Rattle.tableau.proofs.column.beats.Needs as need
 
@@ -22,8 +23,8 @@ times-y-requires c κs =
     let i = c .args .i .now in
     let h = getD (t .rows) (c .loop-h .h) noRow in
     record {
-      small-x = small-bits (2 ^ 30) (at (h .coefs) (c .args .l)) (search needs) (c .pre .ready .sound (c .loop-h .h) (omega arith) .coefs-small (c .args .l));
-      small-y = small-bits (2 ^ 30) (at (i .coefs) (c .args .j)) (search needs) (c .pre .row .coefs-small (c .args .j));
+      small-x = forth (λ z. natAbs z ≤ 2 ^ 30) (at (h .coefs) (c .args .l)) (search needs) (c .pre .ready .sound (c .loop-h .h) (omega arith) .coefs-small (c .args .l));
+      small-y = forth (λ z. natAbs z ≤ 2 ^ 30) (at (i .coefs) (c .args .j)) (search needs) (c .pre .row .coefs-small (c .args .j));
     }
 
 pub returns-then-x-y : need.returns-then-x-y
