@@ -1,8 +1,9 @@
 //! Cuts: a row that the whole-number points still meet, and the fractional corner does not.
 ghost use mathlib.Core.Path.{_≡_};
-ghost use Prim.Native.Nat.{ℕ, _<_, _≤_};
+ghost use Prim.Native.Nat.{ℕ, _<_, _≤_, _^_};
 ghost use lib.IntN.{pos};
 ghost use Rattle.std.specs.Options.{Cases};
+ghost use Rattle.base.specs.Numbers.{AllWithin};
 ghost use Rattle.tableau.specs.Rows.{Sound};
 ghost use Rattle.tableau.specs.Cuts.{CutSound, cutOf, cutRow, firstFraction, isConstant, lower, upper, whole};
 ghost use Rattle.tableau.specs.Tables.{Ready, top};
@@ -108,7 +109,8 @@ impl Cut {
     pub fn lower(&self, q: usize) -> Form
         requires sound { ⌜ CutSound (now self) ⌝ }
         requires place { ⌜ q < 9 ⌝ }
-        ensures { λ r. ⌜ r ≡ lower (now (self .entry)) q ⌝ }
+        ensures value { λ r. ⌜ r ≡ lower (now (self .entry)) q ⌝ }
+        ensures small { λ r. ⌜ AllWithin (2 ^ 30) r ⌝ }
     {
         let mut form = self.form;
         form[q] = -self.div;
@@ -119,7 +121,8 @@ impl Cut {
     pub fn upper(&self, q: usize) -> Form
         requires sound { ⌜ CutSound (now self) ⌝ }
         requires place { ⌜ q < 9 ⌝ }
-        ensures { λ r. ⌜ r ≡ upper (now (self .entry)) q ⌝ }
+        ensures value { λ r. ⌜ r ≡ upper (now (self .entry)) q ⌝ }
+        ensures small { λ r. ⌜ AllWithin (2 ^ 30) r ⌝ }
     {
         let mut form = self.form;
         negate(&mut form);
