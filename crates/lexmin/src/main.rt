@@ -1,7 +1,7 @@
 //! Reads a listing from standard input and prints its solution tree, or by which number it is refused.
-use listing::read::solve_text;
 use listing::show::Shown;
 use listing::show::ShownDisplay;
+use listing::solve::solve_text;
 use std::error::AnyError;
 use std::io::Read;
 use tree::node::Node;
@@ -13,11 +13,10 @@ fn run(rt: &LibcRuntime) -> Result<(), AnyError> {
     let mut text = Vec::new(rt.alloc());
     rt.stdin().read_to_end(&mut text)?;
     let mut work = [Node::None; WORK];
-    let answer = solve_text(text.as_slice(), &mut work);
-    rt.print(Shown {
-        answer,
-        work: &work,
-    })?;
+    match solve_text(text.as_slice(), &mut work) {
+        Ok(solved) => rt.print(Shown::Tree { nodes: &work[0..solved.nodes.min(WORK)], steps: solved.steps })?,
+        Err(refusal) => rt.print(Shown::Refused(refusal))?,
+    }
     Ok(())
 }
 
