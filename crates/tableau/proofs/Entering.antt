@@ -1,5 +1,5 @@
 -- The entering column is the best of those above 0.
-use Prim.Native.Nat.{ℕ, zero, suc, _+_, _<_, _≤_}
+use Prim.Native.Nat.{ℕ, suc, _+_, _<_, _≤_}
 use native.Mathlib.Omega.{arith}
 use native.Mathlib.Decide.{ℕ-discrete, decLe}
 use native.Mathlib.Nat.{add-zero}
@@ -10,8 +10,8 @@ use mathlib.Core.Bool.{Bool, true, false, cond, not}
 use mathlib.Core.List.{List, [], _∷_}
 use lib.Dec.{T}
 use lib.IntN.{ℤ, pos, _*ℤ_}
-use lib.ListN.{drop, length, getD}
-use lib.Signed.{ltZ, ltZ-yes, ltZ-no, _<ℤ_, _≤ℤ_, ≤ℤ-refl, clashℤ}
+use lib.ListN.{drop, length}
+use lib.Signed.{ltZ, ltZ-yes, ltZ-no, _<ℤ_, _≤ℤ_, clashℤ}
 use Rattle.std.specs.declared.option.Option.{Option}
 use Rattle.std.specs.declared.option.Option.the-variants.{Some, None}
 use Rattle.std.proofs.shelf.Lists.{at-drop-more, getD-past}

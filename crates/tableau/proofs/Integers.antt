@@ -1,8 +1,8 @@
 -- Products of integers: their order, and what cancels.
-use Prim.Native.Nat.{ℕ, _+_, _*_, _<_, _≤_}
+use Prim.Native.Nat.{_+_, _*_, _<_, _≤_}
 use native.Mathlib.Omega.{arith}
 use native.Mathlib.Nat.{eq-of-mul-eq-mul-left, mul-le-mul-left, mul-lt-mul-of-pos-left, lt-of-mul-lt-mul-left}
-use mathlib.Core.Path.{_≡_, refl, sym, ap, _∙_}
+use mathlib.Core.Path.{_≡_, refl, ap, _∙_}
 use lib.IntN.{ℤ, pos, negsuc, _*ℤ_, *ℤ-comm}
 use lib.Signed.{_≤ℤ_, _<ℤ_}
 use borrow.Author.Differences.{ints, up, down, same-in, product-is}

@@ -2,15 +2,15 @@
 use Prim.Native.Nat.{ℕ, zero, suc, _*_, _/_, _<_, _≤_, _^_, _∣_}
 use native.Mathlib.Nat.{dvd-trans, dvd-of-mul-dvd-mul-left, eq-one-of-dvd-one, mul-div-cancel', mul-one}
 use native.Mathlib.Omega.{arith}
-use mathlib.Core.Path.{_≡_, refl, sym, ap, subst, _∙_}
+use mathlib.Core.Path.{_≡_, sym, ap, subst, _∙_}
 use mathlib.Core.Bool.{true, _&&_}
 use mathlib.Core.List.{List, [], _∷_, map}
-use lib.IntN.{ℤ, pos, negsuc, natAbs, _*ℤ_}
+use lib.IntN.{ℤ, pos, negsuc, natAbs}
 use lib.Signed.{_<ℤ_, _≤ℤ_}
 use Rattle.std.proofs.shelf.Bits.{le-div}
 use Rattle.std.proofs.shelf.Signed.{ints}
 use Rattle.std.proofs.shelf.Tests.{and-parts, leb-true}
-use Rattle.base.specs.Numbers.{AllWithin, Divides, DividesAll, gcds, inRange, quotBy, within}
+use Rattle.base.specs.Numbers.{AllWithin, gcds, inRange, quotBy, within}
 use Rattle.base.proofs.Divisors.{all-times-cancel, all-times-divided, divides-all-less, divides-by-size, quot-divides, quot-one, quot-times, quots-divide, quots-one, quots-times, size-divided, times-cancel, times-divided, times-quot, times-quots}
 use Rattle.base.proofs.Gcds.{gcds-bounds, gcds-divides, gcds-divides-all, gcds-greatest}
 use Rattle.tableau.specs.declared.table.Row.{Row}

@@ -1,10 +1,10 @@
 -- Rows that a pivot replaces one after the other, and what is known of them after it.
 use Prim.Native.Nat.{ℕ, zero, suc, _+_, _-_, _<_, _≤_}
 use native.Mathlib.Omega.{arith}
-use mathlib.Core.Path.{_≡_, refl, sym, ap, subst, _∙_}
+use mathlib.Core.Path.{_≡_, sym, ap, subst, _∙_}
 use mathlib.Core.Bool.{true}
 use mathlib.Core.List.{List, [], _∷_, _++_, map}
-use lib.IntN.{pos}
+use lib.IntN.{pos, natAbs}
 use lib.ListN.{length, getD, set, take, drop}
 use lib.Signed.{_<ℤ_}
 use Rattle.std.proofs.shelf.Lists.{drop-at, getD-append-right, getD-default, getD-drop, getD-map, getD-take, length-append, length-drop, length-map, length-take-le, take-at}
@@ -14,10 +14,11 @@ use Rattle.std.proofs.shelf.Tests.{and-parts}
 use Rattle.base.specs.Numbers.{at}
 use Rattle.base.proofs.Products.{mul-above}
 use Rattle.tableau.specs.declared.table.Row.{Row}
-use Rattle.tableau.specs.Rows.{Sound, fits, pivoted, turned}
+use Rattle.tableau.specs.Rows.{Sound, fits, pivoted, times, turned}
 use Rattle.tableau.specs.declared.table.Table.{Table}
 use Rattle.tableau.specs.Tables.{PivotAt, Ready, allFit, inUse, noRow}
-use Rattle.tableau.proofs.Lowest.{lowest-sound}
+use Rattle.tableau.proofs.Lowest.{gcdOf-alone, lowest-only, lowest-sound}
+use Rattle.tableau.proofs.Combined.{turned-zero}
 
 -- ---- the rows before h are replaced, the others are as they were
 module _ (f : Row → Row) (old rows : List Row) (h : ℕ) (inv : rows ≡ map f (take h old) ++ drop h old) (in-it : h ≤ length old) where
@@ -54,6 +55,18 @@ turned-above i j h a s = mul-above (at (i .coefs) j) (h .div) a (omega (arith, i
 
 pub pivoted-sound : (i : Row) (j : ℕ) (h : Row) → pos 0 <ℤ at (i .coefs) j → Sound h → fits (pivoted i j h) ≡ true → Sound (pivoted i j h)
 pivoted-sound i j h a s f = lowest-sound (turned i j h) (turned-above i j h a s) f
+
+-- a row with 0 in column j stays as it is
+pub pivoted-zero : (i : Row) (j : ℕ) (h : Row) → j < length (h .coefs) → length (h .coefs) ≡ length (i .coefs) → length (h .form) ≡ length (i .form) → pos 0 <ℤ at (i .coefs) j → Sound h → at (h .coefs) j ≡ pos 0 → h ≡ pivoted i j h
+pivoted-zero i j h lt e f a s none =
+    let n = natAbs (at (i .coefs) j) in
+    let same : pos n ≡ at (i .coefs) j = omega (arith, ints, a) in
+    lowest-only (turned i j h) h (record {
+      factor = n;
+      above = omega (arith, ints, a);
+      common = ap (λ g. times g h) same ∙ sym (turned-zero i j h lt e f none);
+      alone = gcdOf-alone h (s .alone);
+    })
 
 -- a table whose rows a pivot has replaced, and all of them are in range
 pub pivot-ready : (old new : Table) (place : ℕ × ℕ) → Ready old → PivotAt old place → old .count ≤ length (old .rows) → inUse new ≡ map (pivoted (getD (old .rows) (place .0) noRow) (place .1)) (inUse old) → new .count ≡ old .count → new .unknowns ≡ old .unknowns → allFit (inUse new) ≡ true → Ready new

@@ -1,19 +1,18 @@
 -- One step of a search through the unknowns' rows.
 use Prim.Native.Nat.{ℕ, _+_, _<_, _≤_}
 use native.Mathlib.Omega.{arith}
-use mathlib.Core.Path.{_≡_, refl, sym, ap, _∙_}
-use mathlib.Core.Bool.{Bool, true, false, cond}
+use mathlib.Core.Path.{_≡_, ap, _∙_}
+use mathlib.Core.Bool.{Bool}
 use mathlib.Core.List.{List, [], _∷_}
-use lib.IntN.{ℤ, pos, _*ℤ_}
-use lib.ListN.{length, getD, take, drop}
+use lib.IntN.{ℤ}
+use lib.ListN.{length, getD, drop}
 use lib.Signed.{ltZ}
 use Rattle.std.proofs.shelf.Lists.{at-drop-more, at-drop-all, getD-take, length-take, length-take-le}
 use Rattle.std.proofs.shelf.Signed.{ints}
-use Rattle.base.specs.Numbers.{at}
 use Rattle.tableau.specs.declared.table.Row.{Row}
 use Rattle.tableau.specs.declared.table.Table.{Table}
 use Rattle.tableau.specs.Tables.{noRow, top}
-use Rattle.tableau.specs.Columns.{beats, firstLess}
+use Rattle.tableau.specs.Columns.{firstLess}
 
 -- what a definition says of the rows from h on: row h comes first
 pub top-more : {Y : Type 0} (F : List Row → Y) (t : Table) (h : ℕ) → h < t .unknowns → t .unknowns ≤ length (t .rows) → F (drop h (top t)) ≡ F (getD (t .rows) h noRow ∷ drop (h + 1) (top t))

@@ -1,6 +1,6 @@
 //! The entering column.
 ghost use mathlib.Core.Path.{_≡_};
-ghost use Prim.Native.Nat.{ℕ, _<_, _≤_};
+ghost use Prim.Native.Nat.{_<_};
 ghost use Rattle.std.specs.Options.{Cases};
 ghost use Rattle.tableau.specs.Columns.{Enters, beats, better, entering, pivotPlace};
 ghost use Rattle.tableau.specs.Rows.{Sound};

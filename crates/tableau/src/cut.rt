@@ -1,7 +1,6 @@
 //! Cuts: a row that the whole-number points still meet, and the fractional corner does not.
 ghost use mathlib.Core.Path.{_≡_};
-ghost use Prim.Native.Nat.{ℕ, _<_, _≤_, _^_};
-ghost use lib.IntN.{pos};
+ghost use Prim.Native.Nat.{_<_, _^_};
 ghost use Rattle.std.specs.Options.{Cases};
 ghost use Rattle.base.specs.Numbers.{AllWithin};
 ghost use Rattle.tableau.specs.Rows.{Sound};

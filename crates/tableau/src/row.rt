@@ -96,6 +96,10 @@ pub fn pivoted(h: Row, i: &Row, j: usize) -> Row
     ensures { λ r. ⌜ r ≡ pivoted (now (i .entry)) j h ⌝ }
 {
     let b = h.coefs[j];
+    // a row that does not name the unknown of column j stays as it is
+    if b == 0 {
+        return h;
+    }
     let factors = Pair { a: i.coefs[j], b };
     let mut coefs = h.coefs;
     let mut form = h.form;

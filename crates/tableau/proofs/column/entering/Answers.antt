@@ -1,20 +1,16 @@
 use borrow.Author.Needs.{needs}
-use mathlib.Core.Path.{_≡_, sym, ap, subst, _∙_}
-use mathlib.Core.Bool.{true, false, cond}
-use Prim.Native.Nat.{_+_, _<_}
+use mathlib.Core.Path.{_≡_, sym, subst, _∙_}
+use Prim.Native.Nat.{_<_}
 use native.Mathlib.Omega.{arith}
-use lib.IntN.{pos}
-use lib.ListN.{drop, getD, length}
-use lib.Signed.{ltZ}
+use lib.ListN.{length}
 use mir.Val.{SFits}
 use mir.Syntax.{w64}
-use Rattle.std.specs.declared.option.Option.{Option}
 use Rattle.std.proofs.shelf.Lists.{at-drop-all}
 use Rattle.std.proofs.shelf.Signed.{toZ-ofZ}
 use Rattle.std.proofs.shelf.Tests.{cond-true, cond-false}
 use Rattle.base.specs.Numbers.{at}
-use Rattle.tableau.specs.Columns.{Enters, better, entering, enteringFrom}
-use Rattle.tableau.specs.Tables.{noRow, top}
+use Rattle.tableau.specs.Columns.{Enters, entering, enteringFrom}
+use Rattle.tableau.specs.Tables.{top}
 use Rattle.tableau.proofs.Entering.{enter-more, enters}
 use Rattle.tableau.proofs.column.entering.Needs as need
 use Rattle.tableau.proofs.column.entering.Needs.{then-i-j-gt0, else-i-j-gt0}

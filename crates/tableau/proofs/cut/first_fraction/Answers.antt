@@ -1,12 +1,7 @@
 use borrow.Author.Needs.{needs}
-use mathlib.Core.Path.{_≡_, sym, ap, _∙_}
-use mathlib.Core.Bool.{true, false}
-use Prim.Native.Nat.{_+_, _<_}
-use lib.ListN.{drop, getD}
-use Rattle.std.specs.declared.option.Option.the-variants.{Some, None}
+use mathlib.Core.Path.{sym, _∙_}
 use Rattle.std.proofs.shelf.Tests.{cond-true, cond-false}
-use Rattle.tableau.specs.Cuts.{firstFraction, whole}
-use Rattle.tableau.specs.Tables.{noRow}
+use Rattle.tableau.specs.Cuts.{firstFraction}
 use Rattle.tableau.proofs.Searches.{top-more, top-all}
 use Rattle.tableau.proofs.cut.first_fraction.Needs as need
 

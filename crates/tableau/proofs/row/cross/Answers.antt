@@ -1,7 +1,7 @@
 use borrow.Author.Needs.{needs}
 use native.Mathlib.Omega.{arith}
-use Prim.Native.Nat.{_≤_, _^_}
-use lib.IntN.{natAbs, _-ℤ_}
+use Prim.Native.Nat.{_^_}
+use lib.IntN.{_-ℤ_}
 use mir.Val.{SFits}
 use mir.Syntax.{w64}
 use Rattle.std.proofs.shelf.Signed.{toZ-ofZ}

@@ -1,13 +1,28 @@
 use borrow.Author.Needs.{needs}
-use mathlib.Core.Path.{_≡_, sym, subst}
+use mathlib.Core.Path.{_≡_, sym, ap, subst, _∙_}
+use native.Mathlib.Omega.{arith}
 use lib.IntN.{pos, _*ℤ_}
-use lib.ListN.{getD}
+use lib.ListN.{length, getD}
 use lib.Signed.{_<ℤ_}
 use mir.Val.{SFits, toZ, ofZ}
 use mir.Syntax.{w64}
+use Rattle.std.proofs.shelf.Signed.{toZ-ofZ}
 use Rattle.base.proofs.There.{back, forth}
-use Rattle.tableau.proofs.Pivots.{turned-above}
+use Rattle.tableau.proofs.Pivots.{pivoted-zero, turned-above}
 use Rattle.tableau.proofs.row.pivoted.Needs as need
+
+pub returns-then-b-eq0 : need.returns-then-b-eq0
+returns-then-b-eq0 c =
+    let h = c .args .h in
+    let i = c .args .i .now in
+    let hc : length (h .coefs) ≡ 9 = search needs in
+    let ic : length (i .coefs) ≡ 9 = search needs in
+    let hf : length (h .form) ≡ 10 = search needs in
+    let if : length (i .form) ≡ 10 = search needs in
+    let b = getD (h .coefs) (c .args .j) (pos 0) in
+    let fb : SFits w64 b = search needs in
+    let none : b ≡ pos 0 = sym (toZ-ofZ w64 b fb) ∙ ap (toZ w64) (c .if-b-eq0 .taken) in
+    pivoted-zero i (c .args .j) h (omega (arith, hc, c .pre .column)) (hc ∙ sym ic) (hf ∙ sym if) (c .pre .above) (c .pre .sound-h) none
 
 pub lowest-requires : need.lowest-requires
 lowest-requires c κs =

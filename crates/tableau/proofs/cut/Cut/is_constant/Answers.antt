@@ -1,13 +1,11 @@
 use borrow.Author.Needs.{needs}
-use mathlib.Core.Path.{_≡_, sym, ap, _∙_}
+use mathlib.Core.Path.{_≡_, sym, _∙_}
 use mathlib.Core.Bool.{true, false}
-use Prim.Native.Nat.{_<_, _≤_}
+use Prim.Native.Nat.{_<_}
 use native.Mathlib.Omega.{arith}
 use lib.IntN.{pos}
 use lib.ListN.{getD, length, take}
-use mir.Val.{SFits}
-use mir.Syntax.{w64}
-use Rattle.std.proofs.shelf.Lists.{at-drop-more, at-drop-all, getD-take, length-take-le}
+use Rattle.std.proofs.shelf.Lists.{at-drop-more, getD-take, length-take-le}
 use Rattle.tableau.specs.Cuts.{isZero, noneOf}
 use Rattle.tableau.proofs.Bits.{zero-bits, not-zero-bits}
 use Rattle.tableau.proofs.cut.Cut.is_constant.Needs as need

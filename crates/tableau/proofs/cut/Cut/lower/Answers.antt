@@ -1,14 +1,12 @@
-use borrow.Author.Needs.{needs}
 use mathlib.Core.Path.{_≡_, sym, subst, ap}
 use native.Mathlib.Omega.{arith}
 use Prim.Native.Nat.{_^_}
 use lib.IntN.{pos, negℤ, _-ℤ_}
 use lib.ListN.{set}
-use mir.Val.{SFits, toZ, ofZ}
+use mir.Val.{toZ, ofZ}
 use mir.Syntax.{w64}
 use Rattle.std.proofs.shelf.Signed.{ints}
 use Rattle.base.specs.Numbers.{AllWithin}
-use Rattle.tableau.specs.Cuts.{lower}
 use Rattle.tableau.proofs.CutRanges.{cut-above, lower-small}
 use Rattle.tableau.proofs.cut.Cut.lower.Needs as need
 

@@ -1,6 +1,5 @@
 use borrow.Author.Needs.{needs}
 use mathlib.Core.Path.{_≡_, sym, subst, ap, _∙_}
-use mathlib.Core.List.{map}
 use mathlib.Core.Logic.{_≢_}
 use native.Mathlib.Omega.{arith}
 use Prim.Native.Nat.{_^_}
@@ -11,7 +10,6 @@ use mir.Syntax.{w64}
 use Rattle.std.proofs.shelf.Lists.{getD-map, getD-set-other}
 use Rattle.std.proofs.shelf.Signed.{ints, toZ-ofZ}
 use Rattle.base.specs.Numbers.{AllWithin}
-use Rattle.tableau.specs.Cuts.{upper}
 use Rattle.tableau.proofs.CutRanges.{cut-above, upper-small}
 use Rattle.tableau.proofs.cut.Cut.upper.Needs as need
 
