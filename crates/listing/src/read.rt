@@ -1,14 +1,19 @@
 //! Reading a listing.
-use crate::word::first_word;
-use crate::word::number;
+ghost use mathlib.Core.Path.{_≡_};
+ghost use Prim.Native.Nat.{_+_, _*_, _≤_};
+ghost use lib.ListN.{length};
+ghost use Rattle.source.specs.RowSources.{meaningOf, meant};
+ghost use Rattle.listing.specs.Listings.{Small, arrived, bodyAnswer, confineAll, enterAll, isEnd, isShort, readAnswer, rowsOf, systemAnswer, total, understood};
+use crate::counts::Counts;
+use crate::numbers::first_numbers;
+use crate::word::after_blanks;
 use base::refusal::Refusal;
-use source::limits::check_counts;
 use source::rows::RowSource;
 
 /// The longest text of a listing, in bytes.
 pub const LONGEST: usize = 65_536;
 
-/// The most numbers after the counts: fuel, 16 rows of 11 and 8 context rows of 5.
+/// The most numbers after the counts: the fuel, 16 rows of 11 and 8 context rows of 5.
 pub const NUMBERS: usize = 217;
 
 /// A system and the fuel to solve it with.
@@ -18,61 +23,107 @@ pub struct Listing {
     pub fuel: i64,
 }
 
-/// The number that the first word spells, and what stands after it.
-fn next_number(text: &[u8]) -> Result<(i64, &[u8]), Refusal> {
-    let (word, rest) = first_word(text);
-    match number(word) {
-        Some(x) => Ok((x, rest)),
-        None => Err(Refusal::Listing),
-    }
+/// Whether no word is left.
+fn is_end(text: &[u8]) -> bool
+    ensures value { λ r. ⌜ r ≡ isEnd (now (text .entry)) ⌝ }
+{
+    after_blanks(text).len() == 0
 }
 
-/// A count, which is not below 0.
-fn as_count(x: i64) -> Result<usize, Refusal> {
-    if x < 0 {
-        Err(Refusal::Counts)
-    } else {
-        Ok(x as usize)
-    }
+/// Whether a listing may be so long.
+fn is_short(text: &[u8]) -> bool
+    ensures value { λ r. ⌜ r ≡ isShort (now (text .entry)) ⌝ }
+{
+    text.len() <= LONGEST
 }
 
-/// Reads a listing: n p m k fuel, the rows, the context rows.
-pub fn read(text: &[u8]) -> Result<Listing, Refusal> {
-    let (n, rest) = next_number(text)?;
-    let (p, rest) = next_number(rest)?;
-    let (m, rest) = next_number(rest)?;
-    let (k, rest) = next_number(rest)?;
-    let n = as_count(n)?;
-    let p = as_count(p)?;
-    let m = as_count(m)?;
-    let k = as_count(k)?;
-    check_counts(n, p, m, k)?;
-    if text.len() > LONGEST {
-        return Err(Refusal::Listing);
-    }
-    let total = 1 + m * (n + p + 1) + k * (p + 1);
-    let mut numbers = [0; NUMBERS];
-    let mut left = rest;
-    for i in 0..total {
-        let (x, after) = next_number(left)?;
-        numbers[i] = x;
+/// Enters rows that stand one after another.
+fn enter_rows(
+    source: &mut RowSource,
+    count: usize,
+    width: usize,
+    numbers: &[i64],
+) -> Result<(), Refusal>
+    requires { ⌜ count * width ≤ length (now numbers) ⌝ }
+    ensures answer { λ r. ⌜ arrived (meaningOf (now (source .exit))) r ≡ enterAll (rowsOf count width (now (numbers .entry))) (meaningOf (now (source .entry))) ⌝ }
+{
+    let mut left = numbers;
+    for _ in 0..count {
+        let (row, after) = left.split_at(width);
+        source.enter(row)?;
         left = after;
     }
-    let (word, _) = first_word(left);
-    if word.len() > 0 {
+    Ok(())
+}
+
+/// Adds context rows that stand one after another.
+fn confine_rows(
+    source: &mut RowSource,
+    count: usize,
+    width: usize,
+    numbers: &[i64],
+) -> Result<(), Refusal>
+    requires { ⌜ count * width ≤ length (now numbers) ⌝ }
+    ensures answer { λ r. ⌜ arrived (meaningOf (now (source .exit))) r ≡ confineAll (rowsOf count width (now (numbers .entry))) (meaningOf (now (source .entry))) ⌝ }
+{
+    let mut left = numbers;
+    for _ in 0..count {
+        let (row, after) = left.split_at(width);
+        source.confine(row)?;
+        left = after;
+    }
+    Ok(())
+}
+
+/// The system of the numbers that follow the counts.
+fn system(counts: Counts, numbers: &[i64]) -> Result<RowSource, Refusal>
+    requires small { ⌜ Small counts ⌝ }
+    requires full { ⌜ length (now numbers) ≡ total counts ⌝ }
+    ensures answer { λ r. ⌜ meant r ≡ systemAnswer counts (now (numbers .entry)) ⌝ }
+{
+    let mut source = RowSource::new(counts.n, counts.p)?;
+    enter_rows(&mut source, counts.m, counts.row_length(), &numbers[1..])?;
+    let context = &numbers[counts.before_context()..];
+    confine_rows(&mut source, counts.k, counts.context_row_length(), context)?;
+    Ok(source)
+}
+
+/// Reads what follows the counts, by way of as many places as there are numbers.
+fn read_numbers(counts: Counts, text: &[u8], numbers: &mut [i64]) -> Result<Listing, Refusal>
+    requires small { ⌜ Small counts ⌝ }
+    requires full { ⌜ length (now numbers) ≡ total counts ⌝ }
+    ensures answer { λ r. ⌜ understood r ≡ bodyAnswer counts (now (text .entry)) ⌝ }
+{
+    let rest = first_numbers(text, numbers)?;
+    if !is_end(rest) {
         return Err(Refusal::Listing);
     }
-    let mut source = RowSource::new(n, p)?;
-    for i in 0..m {
-        let at = 1 + i * (n + p + 1);
-        source.enter(&numbers[at..at + n + p + 1])?;
-    }
-    for i in 0..k {
-        let at = 1 + m * (n + p + 1) + i * (p + 1);
-        source.confine(&numbers[at..at + p + 1])?;
-    }
+    let source = system(counts, numbers)?;
     Ok(Listing {
         source,
         fuel: numbers[0],
     })
+}
+
+/// Reads what follows the counts.
+fn read_body(counts: Counts, text: &[u8]) -> Result<Listing, Refusal>
+    requires { ⌜ Small counts ⌝ }
+    ensures answer { λ r. ⌜ understood r ≡ bodyAnswer counts (now (text .entry)) ⌝ }
+{
+    let mut numbers = [0; NUMBERS];
+    let total = counts.total();
+    read_numbers(counts, text, &mut numbers[0..total])
+}
+
+/// Reads a listing: n p m k fuel, the rows, the context rows.
+pub fn read(text: &[u8]) -> Result<Listing, Refusal>
+    ensures answer { λ r. ⌜ understood r ≡ readAnswer (now (text .entry)) ⌝ }
+{
+    let mut four = [0; 4];
+    let rest = first_numbers(text, &mut four)?;
+    let counts = Counts::of(&four)?;
+    if !is_short(text) {
+        return Err(Refusal::Listing);
+    }
+    read_body(counts, rest)
 }

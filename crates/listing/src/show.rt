@@ -1,4 +1,9 @@
 //! Showing an answer.
+ghost use mathlib.Core.Path.{_≡_};
+ghost use lib.ListN.{take};
+ghost use Rattle.std.specs.shelf.Lists.{joined};
+ghost use Rattle.std.specs.declared.option.Option.the-variants.{Some};
+ghost use Rattle.listing.specs.Texts.{line, nodeText, point, shownText, unknownsOf};
 use base::refusal::Refusal;
 use std::fmt;
 use tree::node::Node;
@@ -11,48 +16,73 @@ pub enum Shown<'a> {
     Refused(Refusal),
 }
 
-fn write_numbers<W: fmt::Write>(f: &mut fmt::Formatter<W>, form: &NodeForm) -> fmt::Result {
-    for x in form.iter() {
-        write!(f, " {}", *x)?;
+/// The numbers of a form, a space before each, and the end of the line.
+#[derive(Drop)]
+struct Line<'a>(&'a [i32]);
+
+impl fmt::Display for Line<'_> as LineDisplay {
+    ghost shown = { λ x. Some (line (x .0 .now)) };
+
+    fn fmt<W: fmt::Write>(&self, f: &mut fmt::Formatter<W>) -> fmt::Result {
+        for x in self.0.iter() {
+            write!(f, " {x}")?;
+        }
+        writeln!(f, "")
     }
-    writeln!(f, "")
 }
 
-fn write_leaf<W: fmt::Write>(
-    f: &mut fmt::Formatter<W>,
-    forms: &[NodeForm; 6],
-    n: u8,
-) -> fmt::Result {
-    writeln!(f, "leaf")?;
-    for form in forms.iter().take(n as usize) {
-        write!(f, "at")?;
-        write_numbers(f, form)?;
+/// A line for each form.
+#[derive(Drop)]
+struct Points<'a>(&'a [NodeForm]);
+
+impl fmt::Display for Points<'_> as PointsDisplay {
+    ghost shown = { λ x. Some (joined point (x .0 .now)) };
+
+    fn fmt<W: fmt::Write>(&self, f: &mut fmt::Formatter<W>) -> fmt::Result {
+        for form in self.0.iter() {
+            write!(f, "at{}", Line(form))?;
+        }
+        Ok(())
     }
-    Ok(())
 }
 
-fn write_node<W: fmt::Write>(f: &mut fmt::Formatter<W>, node: &Node, unknowns: u8) -> fmt::Result {
-    match node {
-        Node::Head { n, p } => writeln!(f, "head {} {}", *n, *p),
-        Node::Keep(form) => {
-            write!(f, "keep")?;
-            write_numbers(f, form)
+/// The forms of the unknowns that there are.
+fn of_unknowns(forms: &[NodeForm; 6], unknowns: u8) -> &[NodeForm]
+    ensures value { λ r. ⌜ now r ≡ take unknowns (now (forms .entry)) ⌝ }
+{
+    if unknowns < 6 {
+        &forms[0..unknowns as usize]
+    } else {
+        forms
+    }
+}
+
+/// A node of a tree with so many unknowns.
+#[derive(Drop)]
+struct Lines<'a> {
+    node: &'a Node,
+    unknowns: u8,
+}
+
+impl fmt::Display for Lines<'_> as LinesDisplay {
+    ghost shown = { λ x. Some (nodeText (x .unknowns) (x .node .now)) };
+
+    fn fmt<W: fmt::Write>(&self, f: &mut fmt::Formatter<W>) -> fmt::Result {
+        match self.node {
+            Node::Head { n, p } => writeln!(f, "head {n} {p}"),
+            Node::Keep(form) => write!(f, "keep{}", Line(form)),
+            Node::Split(form) => write!(f, "if{}", Line(form)),
+            Node::New { d, form } => write!(f, "new {d}{}", Line(form)),
+            Node::Leaf(forms) => write!(f, "leaf\n{}", Points(of_unknowns(forms, self.unknowns))),
+            Node::None => writeln!(f, "none"),
         }
-        Node::Split(form) => {
-            write!(f, "if")?;
-            write_numbers(f, form)
-        }
-        Node::New { d, form } => {
-            write!(f, "new {}", *d)?;
-            write_numbers(f, form)
-        }
-        Node::Leaf(forms) => write_leaf(f, forms, unknowns),
-        Node::None => writeln!(f, "none"),
     }
 }
 
 /// How many unknowns the head of a tree names.
-fn unknowns_of(nodes: &[Node]) -> u8 {
+fn unknowns_of(nodes: &[Node]) -> u8
+    ensures value { λ r. ⌜ r ≡ unknownsOf (now (nodes .entry)) ⌝ }
+{
     match nodes {
         [Node::Head { n, p: _ }, ..] => *n,
         _ => 0,
@@ -60,14 +90,16 @@ fn unknowns_of(nodes: &[Node]) -> u8 {
 }
 
 pub impl fmt::Display for Shown<'_> as ShownDisplay {
+    ghost shown = { λ x. Some (shownText x) };
+
     fn fmt<W: fmt::Write>(&self, f: &mut fmt::Formatter<W>) -> fmt::Result {
         match self {
             Shown::Tree { nodes, steps } => {
                 let unknowns = unknowns_of(nodes);
                 for node in nodes.iter() {
-                    write_node(f, node, unknowns)?;
+                    write!(f, "{}", Lines { node, unknowns })?;
                 }
-                writeln!(f, "steps {}", *steps)
+                writeln!(f, "steps {steps}")
             }
             Shown::Refused(refusal) => writeln!(f, "refused {}", refusal.number()),
         }

@@ -1,0 +1,5 @@
+mod WordSteps
+mod NumberSteps
+mod RowSteps
+mod SystemSteps
+mod Prints
