@@ -1,2 +1,4 @@
 pub mod Keeping
 pub mod Starting
+pub mod Turning
+pub mod Constants

@@ -1,17 +1,26 @@
 -- The tables, contexts and states of the code, as the rules see them.
-use mathlib.Core.List.{List, []}
-use Prim.Native.Nat.{ℕ}
+use mathlib.Core.Bool.{cond}
+use mathlib.Core.List.{List, [], _∷_}
+use Prim.Native.Nat.{ℕ, suc, _+_}
+use lib.Dec.{ltb}
+use lib.IntN.{ℤ, pos}
+use lib.Signed.{ltZ}
 use lib.ListN.{drop}
+use Rattle.std.specs.declared.option.Option.{Option}
+use Rattle.std.specs.declared.option.Option.the-variants.{Some, None}
 use Rattle.std.specs.declared.result.Result.{Result}
 use Rattle.std.specs.declared.result.Result.the-variants.{Ok, Err}
+use Rattle.base.specs.declared.refusal.Place.{Place}
 use Rattle.base.specs.declared.refusal.Refusal.{Refusal}
+use Rattle.base.specs.declared.refusal.Refusal.the-variants.{FuelSpent}
+use Rattle.base.specs.Numbers.{at}
 use Rattle.tableau.specs.declared.table.Row.{Row}
 use Rattle.tableau.specs.declared.table.Table.{Table}
 use Rattle.tableau.specs.Tables.{inUse, top}
 use Rattle.solver.specs.declared.count.Count.{Count}
 use Rattle.solver.specs.declared.state.State.{State}
 use Rattle.solver.specs.Bounds.{inForce}
-use Rattle.solver.specs.Runs.{Limits, Outcome}
+use Rattle.solver.specs.Runs.{Limits, Outcome, metAt, stepped}
 use Rattle.solver.specs.Rules.{Work}
 
 abbrev pub limits : ℕ → ℕ → Limits
@@ -44,3 +53,16 @@ workOf s =
 abbrev pub moved : Table → Work → Result Count Refusal → Outcome Work
 moved t s (Ok c) = Ok (withTable t s, c)
 moved t s (Err e) = Err e
+
+-- a step, as a count alone
+abbrev pub ticked : Place → ℕ → Count → Result Count Refusal
+ticked place fuel c = cond (ltb (c .steps) fuel) (Ok (stepped c)) (Err (FuelSpent (metAt place c)))
+
+-- the work after a cut: its context and new parameters, and one cut more
+abbrev pub afterCut : Work → List (List ℤ) → ℕ → Work
+afterCut s context made = record { top = s .top; rest = s .rest; context = context; parameters = s .parameters; made = made; cuts = suc (s .cuts) }
+
+-- the first row, counted from k, whose constant is below 0
+abbrev pub firstNegative : ℕ → List Row → Option ℕ
+firstNegative k [] = None
+firstNegative k (r ∷ rs) = cond (ltZ (at (r .form) 9) (pos 0)) (Some k) (firstNegative (k + 1) rs)

@@ -5,7 +5,8 @@ ghost use lib.IntN.{natAbs};
 ghost use mathlib.Core.List.{[], _∷_, _++_, map};
 ghost use Rattle.base.specs.Numbers.{AllWithin, at};
 ghost use Rattle.tableau.specs.Rows.{Sound};
-ghost use Rattle.tableau.specs.Tables.{Ready, inUse, top};
+ghost use lib.ListN.{getD};
+ghost use Rattle.tableau.specs.Tables.{Ready, inUse, noRow, top};
 ghost use Rattle.solver.specs.Bounds.{ContextReady, inForce};
 ghost use Rattle.solver.specs.Tests.{testRow, unitRow, unitRows};
 ghost use Rattle.solver.specs.Ties.{rest};
@@ -65,6 +66,7 @@ pub fn push_row(t: &mut Table, row: Row)
     requires room { ⌜ now t .count < 64 ⌝ }
     requires sound { ⌜ Sound row ⌝ }
     ensures rows { λ _. ⌜ inUse (now (t .exit)) ≡ inUse (now (t .entry)) ++ row ∷ [] ⌝ }
+    ensures row { λ _. ⌜ getD (now (t .exit) .rows) (now (t .entry) .count) noRow ≡ row ⌝ }
     ensures top { λ _. ⌜ top (now (t .exit)) ≡ top (now (t .entry)) ⌝ }
     ensures rest { λ _. ⌜ rest (now (t .exit)) ≡ rest (now (t .entry)) ++ row ∷ [] ⌝ }
     ensures ready { λ _. ⌜ Ready (now (t .exit)) ⌝ }
