@@ -2,3 +2,5 @@ pub mod Keeping
 pub mod Starting
 pub mod Turning
 pub mod Constants
+pub mod Testing
+pub mod Cutting

@@ -1,13 +1,13 @@
 -- The moves on a table, as the rules have them.
-use Prim.Native.Nat.{ℕ, suc, _≤_, _<_}
+use Prim.Native.Nat.{ℕ, suc, _+_, _≤_, _<_}
 use native.Mathlib.Omega.{arith}
 use mathlib.Core.Path.{_≡_, refl, sym, ap, _∙_}
 use mathlib.Core.Bool.{Bool, true, false, cond}
 use mathlib.Core.List.{List, [], _∷_, _++_, map}
 use lib.Dec.{ltb}
 use lib.IntN.{ℤ}
-use lib.ListN.{getD, take, drop}
-use Rattle.std.proofs.shelf.Lists.{drop-map, map-append, take-append-drop, take-map, take-take}
+use lib.ListN.{length, getD, take, drop}
+use Rattle.std.proofs.shelf.Lists.{at-drop-all, at-drop-more, drop-map, getD-take, length-take, length-take-le, map-append, take-append-drop, take-map, take-take}
 use Rattle.std.specs.declared.option.Option.{Option}
 use Rattle.std.specs.declared.option.Option.the-variants.{Some, None}
 use Rattle.std.specs.declared.result.Result.{Result}
@@ -41,6 +41,14 @@ module _ (f : Row → Row) (t u : Table) (h : t .unknowns ≤ t .count) (count :
 
   pub rest-mapped : rest u ≡ map f (rest t)
   rest-mapped = ap (λ n. drop n (inUse u)) unknowns ∙ ap (drop (t .unknowns)) rows ∙ drop-map f (t .unknowns) (inUse t)
+
+-- a search through the rows in use: row h comes next
+pub used-more : {Y : Type 0} (F : List Row → Y) (t : Table) (h : ℕ) → h < t .count → t .count ≤ length (t .rows) → F (drop h (inUse t)) ≡ F (getD (t .rows) h noRow ∷ drop (h + 1) (inUse t))
+used-more F t h lt le =
+    at-drop-more F (inUse t) h noRow (omega (arith, length-take-le (t .count) (t .rows) le)) ∙ ap (λ r. F (r ∷ drop (h + 1) (inUse t))) (getD-take (t .count) (t .rows) h noRow lt)
+
+pub used-all : {Y : Type 0} (F : List Row → Y) (t : Table) (h : ℕ) → t .count ≤ h → F (drop h (inUse t)) ≡ F []
+used-all F t h ge = at-drop-all F (inUse t) h (omega (arith, length-take (t .count) (t .rows)))
 
 -- ---- a pivot
 -- the work with its rows pivoted

@@ -1,5 +1,6 @@
 -- The tables, contexts and states of the code, as the rules see them.
 use mathlib.Core.Bool.{cond}
+use mathlib.Core.Path.{_≡_}
 use mathlib.Core.List.{List, [], _∷_}
 use Prim.Native.Nat.{ℕ, suc, _+_}
 use lib.Dec.{ltb}
@@ -17,6 +18,7 @@ use Rattle.base.specs.Numbers.{at}
 use Rattle.tableau.specs.declared.table.Row.{Row}
 use Rattle.tableau.specs.declared.table.Table.{Table}
 use Rattle.tableau.specs.Tables.{inUse, top}
+use Rattle.solver.specs.declared.context.Context.{Context}
 use Rattle.solver.specs.declared.count.Count.{Count}
 use Rattle.solver.specs.declared.state.State.{State}
 use Rattle.solver.specs.Bounds.{inForce}
@@ -66,3 +68,14 @@ afterCut s context made = record { top = s .top; rest = s .rest; context = conte
 abbrev pub firstNegative : ℕ → List Row → Option ℕ
 firstNegative k [] = None
 firstNegative k (r ∷ rs) = cond (ltZ (at (r .form) 9) (pos 0)) (Some k) (firstNegative (k + 1) rs)
+
+-- what a cut in a test answers
+abbrev pub tested : Table → ℕ → Result Count Refusal → Outcome Work
+tested t cuts (Ok c) = Ok (testOf t cuts, c)
+tested t cuts (Err e) = Err e
+
+-- the work knows of the parameters what the context says
+pub record KnownAs (c : Context) (s : Work) : Type 0 where
+  pub context : s .context ≡ inForce c
+  pub parameters : s .parameters ≡ c .parameters
+  pub made : s .made ≡ c .made

@@ -61,6 +61,7 @@ pub fn sign_of(
     requires ready { ⌜ ContextReady (now ctx) ⌝ }
     requires room { ⌜ now ctx .count < 31 ⌝ }
     requires within { ⌜ count .steps ≤ fuel ⌝ }
+    requires fuel { ⌜ fuel ≤ 100000 ⌝ }
     ensures kept { λ _. ⌜ SameContext (now (ctx .entry)) (now (ctx .exit)) ⌝ }
     ensures stepped { λ r. ⌜ made r (λ v. Stepped fuel count (v .1)) ⌝ }
 {
@@ -93,6 +94,7 @@ pub fn scan_rows(
     requires ready { ⌜ ContextReady (now ctx) ⌝ }
     requires room { ⌜ now ctx .count < 31 ⌝ }
     requires within { ⌜ start .steps ≤ fuel ⌝ }
+    requires fuel { ⌜ fuel ≤ 100000 ⌝ }
     ensures kept { λ _. ⌜ SameContext (now (ctx .entry)) (now (ctx .exit)) ⌝ }
     ensures inside { λ r. ⌜ made r (λ v. ScanBelow (now (t .entry) .count) (v .0)) ⌝ }
     ensures stepped { λ r. ⌜ made r (λ v. Stepped fuel start (v .1)) ⌝ }
