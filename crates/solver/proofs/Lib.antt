@@ -4,3 +4,4 @@ pub mod Turning
 pub mod Constants
 pub mod Testing
 pub mod Cutting
+pub mod Signing

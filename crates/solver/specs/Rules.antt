@@ -19,6 +19,8 @@ use Rattle.tableau.specs.Cuts.{cutOf, cutRow, isConstant, lower, upper, whole}
 use Rattle.tableau.specs.Rows.{fits, pivoted}
 use Rattle.tableau.specs.Tables.{allFit}
 use Rattle.tree.specs.Trees.{Tree, split, new, leaf, none}
+use Rattle.solver.specs.declared.sign.Sign.{Sign}
+use Rattle.solver.specs.declared.sign.Sign.the-variants.{NonNegative, Negative, Unknown}
 use Rattle.solver.specs.Runs.{Run, return, _>>=_, _>>_, refuse, tick, bar, write}
 use Rattle.solver.specs.Tests.{testRow, unitRows}
 
@@ -35,9 +37,6 @@ unfoldable pub ranged : Place → Bool → Run (Unit {0})
 ranged place inside = cond inside (return tt) (refuse Range place)
 
 -- ---- signs in row order
-pub data Sign : Type 0 where
-  nonnegative negative unknown : Sign
-
 -- the first negative row, or else the first unknown one, or else nothing
 pub data Scan : Type 0 where
   below unsure : Row → Scan
@@ -49,9 +48,9 @@ recall r (unsure i) = unsure r
 recall r clear = unsure r
 
 unfoldable pub scanned : Row → Run Scan → Sign → Run Scan
-scanned r rest nonnegative = rest
-scanned r rest negative = return (below r)
-scanned r rest unknown = do
+scanned r rest NonNegative = rest
+scanned r rest Negative = return (below r)
+scanned r rest Unknown = do
   found ← rest
   return (recall r found)
 
@@ -143,8 +142,8 @@ plenty = 100_001
 
 -- ---- test: has the context a point? There are no parameters, so each sign is that of a constant, and nothing is split
 abbrev pub signOf : ℤ → Sign
-signOf (pos n) = nonnegative
-signOf (negsuc n) = negative
+signOf (pos n) = NonNegative
+signOf (negsuc n) = Negative
 
 abbrev pub testing : Way
 testing = record { place = Test; sign = λ s C. return (signOf (at C 9)); split = λ s C. refuse FuelSpent Test }
@@ -179,17 +178,17 @@ noneAbove [] = true
 noneAbove (x ∷ xs) = leZ x (pos 0) && noneAbove xs
 
 unfoldable pub afterAbove : Bool → Run Sign
-afterAbove true = return unknown
-afterAbove false = return negative
+afterAbove true = return Unknown
+afterAbove false = return Negative
 
 unfoldable pub afterBelow : Work → List ℤ → Bool → Run Sign
 afterBelow s C true = testWith s C >>= afterAbove
-afterBelow s C false = return nonnegative
+afterBelow s C false = return NonNegative
 
 unfoldable pub signIn : Work → List ℤ → Run Sign
 signIn s C =
-  cond (noneBelow C) (return nonnegative)
-  (cond (ltZ (at C 9) (pos 0) && noneAbove C) (return negative)
+  cond (noneBelow C) (return NonNegative)
+  (cond (ltZ (at C 9) (pos 0) && noneAbove C) (return Negative)
   (testWith s (opposite C) >>= afterBelow s C))
 
 -- ---- the tree: both branches of a split start from the work before it; `left` splits may still stand one below the other

@@ -6,7 +6,7 @@ use Prim.Native.Nat.{ℕ, suc, _+_}
 use lib.Dec.{ltb}
 use lib.IntN.{ℤ, pos}
 use lib.Signed.{ltZ}
-use lib.ListN.{drop}
+use lib.ListN.{drop, getD}
 use Rattle.std.specs.declared.option.Option.{Option}
 use Rattle.std.specs.declared.option.Option.the-variants.{Some, None}
 use Rattle.std.specs.declared.result.Result.{Result}
@@ -17,13 +17,15 @@ use Rattle.base.specs.declared.refusal.Refusal.the-variants.{FuelSpent}
 use Rattle.base.specs.Numbers.{at}
 use Rattle.tableau.specs.declared.table.Row.{Row}
 use Rattle.tableau.specs.declared.table.Table.{Table}
-use Rattle.tableau.specs.Tables.{inUse, top}
+use Rattle.tableau.specs.Tables.{inUse, noRow, top}
 use Rattle.solver.specs.declared.context.Context.{Context}
 use Rattle.solver.specs.declared.count.Count.{Count}
+use Rattle.solver.specs.declared.sign.Scan.{Scan as Found}
+use Rattle.solver.specs.declared.sign.Scan.the-variants.{Negative, Unsure, Clear}
 use Rattle.solver.specs.declared.state.State.{State}
 use Rattle.solver.specs.Bounds.{inForce}
 use Rattle.solver.specs.Runs.{Limits, Outcome, metAt, stepped}
-use Rattle.solver.specs.Rules.{Work}
+use Rattle.solver.specs.Rules.{Scan, Work, below, clear, unsure}
 
 abbrev pub limits : ℕ → ℕ → Limits
 limits fuel room = record { fuel = fuel; room = room }
@@ -79,3 +81,19 @@ pub record KnownAs (c : Context) (s : Work) : Type 0 where
   pub context : s .context ≡ inForce c
   pub parameters : s .parameters ≡ c .parameters
   pub made : s .made ≡ c .made
+
+-- the row found, by itself
+abbrev pub scanAt : List Row → Found → Scan
+scanAt rows (Negative h) = below (getD rows h noRow)
+scanAt rows (Unsure h) = unsure (getD rows h noRow)
+scanAt rows Clear = clear
+
+abbrev pub scannedAt : List Row → Result (Found × Count) Refusal → Outcome Scan
+scannedAt rows (Ok v) = Ok (scanAt rows (v .0), v .1)
+scannedAt rows (Err e) = Err e
+
+-- the first unknown row is remembered
+abbrev pub firstUnsure : Found → ℕ → Found
+firstUnsure Clear h = Unsure h
+firstUnsure (Unsure k) h = Unsure k
+firstUnsure (Negative k) h = Negative k
