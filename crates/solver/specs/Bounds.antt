@@ -1,10 +1,11 @@
 -- What the work keeps: room for every row, numbers in range, steps within the fuel.
 use Prim.Native.Nat.{ℕ, _+_, _*_, _^_, _<_, _≤_}
 use mathlib.Core.Path.{_≡_}
-use mathlib.Core.List.{List, []}
-use lib.IntN.{ℤ}
+use mathlib.Core.List.{List, [], _∷_}
+use lib.IntN.{ℤ, pos}
 use lib.ListN.{getD, take}
-use Rattle.base.specs.Numbers.{AllWithin}
+use Rattle.base.specs.Numbers.{AllWithin, at}
+use Rattle.tableau.specs.declared.table.Row.{Row}
 use Rattle.tableau.specs.Tables.{Ready}
 use Rattle.solver.specs.declared.context.Context.{Context}
 use Rattle.solver.specs.declared.count.Count.{Count}
@@ -71,3 +72,11 @@ pub record CountsFit (c : Counts) : Type 0 where
   pub parameters : c .p ≤ 4
   pub rows : c .m ≤ 16
   pub context : c .k ≤ 8
+
+-- the row's form names no parameter, as in a test
+abbrev pub ConstForm : Row → Type 0
+ConstForm r = (k : ℕ) → k < 9 → at (r .form) k ≡ pos 0
+
+abbrev pub AllConst : List Row → Type 0
+AllConst [] = Unit {0}
+AllConst (r ∷ rs) = ConstForm r × AllConst rs

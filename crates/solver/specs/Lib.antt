@@ -1,1 +1,6 @@
 pub mod Bounds
+pub mod Runs
+pub mod Tests
+pub mod Rules
+pub mod Solves
+pub mod Ties

@@ -1,7 +1,12 @@
 //! Steps and nodes, counted in each result.
 ghost use mathlib.Core.Path.{_≡_};
+ghost use mathlib.Core.Bool.{cond};
+ghost use lib.Dec.{ltb};
 ghost use Rattle.std.specs.Vec.{made};
+ghost use Rattle.base.specs.declared.refusal.Refusal.the-variants.{FuelSpent};
 ghost use Rattle.solver.specs.Bounds.{Moved};
+ghost use Rattle.solver.specs.Runs.{metAt};
+ghost use Rattle.solver.specs.Ties.{ticked};
 use base::refusal::Met;
 use base::refusal::Place;
 use base::refusal::Refusal;
@@ -27,6 +32,7 @@ impl Count {
 
 /// Inner: one step more, where fuel is left.
 pub fn tick(place: Place, fuel: u32, count: Count) -> Result<Count, Refusal>
+    ensures value { λ r. ⌜ r ≡ ticked place fuel count ⌝ }
     ensures moved { λ r. ⌜ made r (Moved fuel count) ⌝ }
 {
     if count.steps >= fuel {
@@ -39,7 +45,9 @@ pub fn tick(place: Place, fuel: u32, count: Count) -> Result<Count, Refusal>
 }
 
 /// Inner: the refusal of a step that may not be made: spent fuel is said first.
-pub fn barred(refusal: Refusal, place: Place, fuel: u32, count: Count) -> Refusal {
+pub fn barred(refusal: Refusal, place: Place, fuel: u32, count: Count) -> Refusal
+    ensures value { λ r. ⌜ r ≡ cond (ltb (count .steps) fuel) refusal (FuelSpent (metAt place count)) ⌝ }
+{
     if count.steps >= fuel {
         return Refusal::FuelSpent(count.met(place));
     }

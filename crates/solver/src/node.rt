@@ -54,6 +54,7 @@ fn leaf_of(t: &Table) -> Node
 pub fn node(state: &mut State, fuel: u32, work: &mut [Node], start: Count) -> Result<Count, Refusal>
     requires ready { ⌜ StateReady (now state) ⌝ }
     requires within { ⌜ start .steps ≤ fuel ⌝ }
+    requires fuel { ⌜ fuel ≤ 100000 ⌝ }
     ensures stepped { λ r. ⌜ made r (Stepped fuel start) ⌝ }
 {
     let (end, count) = settle(state, fuel, work, start)?;
@@ -76,6 +77,7 @@ fn split(
     requires ready { ⌜ StateReady (now state) ⌝ }
     requires row { ⌜ h < now state .table .count ⌝ }
     requires within { ⌜ start .steps ≤ fuel ⌝ }
+    requires fuel { ⌜ fuel ≤ 100000 ⌝ }
     ensures stepped { λ r. ⌜ made r (Stepped fuel start) ⌝ }
 {
     if state.left == 0 {

@@ -39,7 +39,8 @@ fn write_keeps(ctx: &Context, work: &mut [Node], start: Count) -> Result<Count, 
 
 /// The run of a state: the context's own test, head and keeps, then the tree.
 fn run_state(state: &mut State, fuel: u32, work: &mut [Node]) -> Result<Count, Refusal>
-    requires { ⌜ StateReady (now state) ⌝ }
+    requires ready { ⌜ StateReady (now state) ⌝ }
+    requires fuel { ⌜ fuel ≤ 100000 ⌝ }
     ensures stepped { λ r. ⌜ made r (λ c. c .steps ≤ fuel) ⌝ }
 {
     let (met, count) = test(&state.context, fuel, Count { steps: 0, nodes: 0 })?;

@@ -147,6 +147,7 @@ pub fn settle(
 ) -> Result<(End, Count), Refusal>
     requires ready { ⌜ StateReady (now state) ⌝ }
     requires within { ⌜ start .steps ≤ fuel ⌝ }
+    requires fuel { ⌜ fuel ≤ 100000 ⌝ }
     ensures ready { λ r. ⌜ made r (λ _. StateReady (now (state .exit))) ⌝ }
     ensures left { λ _. ⌜ now (state .exit) .left ≡ now (state .entry) .left ⌝ }
     ensures inside { λ r. ⌜ made r (λ v. EndBelow (now (state .exit) .table .count) (v .0)) ⌝ }

@@ -1,10 +1,15 @@
 //! The sign of a form where the context holds.
 ghost use mathlib.Core.Path.{_≡_};
-ghost use Prim.Native.Nat.{_+_, _^_, _<_, _≤_};
+ghost use mathlib.Core.Bool.{_&&_, not};
+ghost use Prim.Native.Nat.{ℕ, _+_, _^_, _<_, _≤_};
+ghost use lib.IntN.{pos};
+ghost use lib.Signed.{leZ, ltZ};
 ghost use Rattle.std.specs.Vec.{made};
-ghost use Rattle.base.specs.Numbers.{AllWithin};
-ghost use Rattle.tableau.specs.Tables.{Ready};
+ghost use Rattle.base.specs.Numbers.{AllWithin, at};
+ghost use Rattle.tableau.specs.Tables.{Ready, inUse};
 ghost use Rattle.solver.specs.Bounds.{ContextReady, SameContext, ScanBelow, Stepped};
+ghost use Rattle.solver.specs.Rules.{Work, noneAbove, noneBelow, scan, signIn};
+ghost use Rattle.solver.specs.Ties.{KnownAs, firstUnsure, limits, scannedAt};
 use crate::context::Context;
 use crate::count::Count;
 use crate::test::test_with;
@@ -30,10 +35,26 @@ pub enum Scan {
     Clear,
 }
 
+/// Whether the number is below 0.
+fn is_below(x: i64) -> bool
+    ensures value { λ r. ⌜ not r ≡ leZ (pos 0) x ⌝ }
+{
+    x < 0
+}
+
+/// Whether the number is above 0.
+fn is_above(x: i64) -> bool
+    ensures value { λ r. ⌜ not r ≡ leZ x (pos 0) ⌝ }
+{
+    x > 0
+}
+
 /// Whether no number of the form is below 0.
-fn none_below(form: &Form) -> bool {
+fn none_below(form: &Form) -> bool
+    ensures value { λ r. ⌜ r ≡ noneBelow (now (form .entry)) ⌝ }
+{
     for x in form.iter() {
-        if *x < 0 {
+        if is_below(*x) {
             return false;
         }
     }
@@ -41,13 +62,22 @@ fn none_below(form: &Form) -> bool {
 }
 
 /// Whether no number of the form is above 0.
-fn none_above(form: &Form) -> bool {
+fn none_above(form: &Form) -> bool
+    ensures value { λ r. ⌜ r ≡ noneAbove (now (form .entry)) ⌝ }
+{
     for x in form.iter() {
-        if *x > 0 {
+        if is_above(*x) {
             return false;
         }
     }
     true
+}
+
+/// Whether the constant is below 0 and no number above 0.
+fn plainly_negative(form: &Form) -> bool
+    ensures value { λ r. ⌜ r ≡ (ltZ (at (now (form .entry)) 9) (pos 0) && noneAbove (now (form .entry))) ⌝ }
+{
+    form[CONSTANT] < 0 && none_above(form)
 }
 
 /// Inner: the sign of a form: by two quick rules, else by two tests of the context.
@@ -61,13 +91,15 @@ pub fn sign_of(
     requires ready { ⌜ ContextReady (now ctx) ⌝ }
     requires room { ⌜ now ctx .count < 31 ⌝ }
     requires within { ⌜ count .steps ≤ fuel ⌝ }
+    requires fuel { ⌜ fuel ≤ 100000 ⌝ }
+    ensures value { λ r. ⌜ ((s : Work) (n : ℕ) → KnownAs (now (ctx .entry)) s → signIn s (now (form .entry)) (limits fuel n) count ≡ r) ⌝ }
     ensures kept { λ _. ⌜ SameContext (now (ctx .entry)) (now (ctx .exit)) ⌝ }
     ensures stepped { λ r. ⌜ made r (λ v. Stepped fuel count (v .1)) ⌝ }
 {
     if none_below(form) {
         return Ok((Sign::NonNegative, count));
     }
-    if form[CONSTANT] < 0 && none_above(form) {
+    if plainly_negative(form) {
         return Ok((Sign::Negative, count));
     }
     let (below, count) = test_with(ctx, &opposite(form), fuel, count)?;
@@ -93,6 +125,8 @@ pub fn scan_rows(
     requires ready { ⌜ ContextReady (now ctx) ⌝ }
     requires room { ⌜ now ctx .count < 31 ⌝ }
     requires within { ⌜ start .steps ≤ fuel ⌝ }
+    requires fuel { ⌜ fuel ≤ 100000 ⌝ }
+    ensures value { λ r. ⌜ ((s : Work) (n : ℕ) → KnownAs (now (ctx .entry)) s → scan (signIn s) (inUse (now (t .entry))) (limits fuel n) start ≡ scannedAt (now (t .entry) .rows) r) ⌝ }
     ensures kept { λ _. ⌜ SameContext (now (ctx .entry)) (now (ctx .exit)) ⌝ }
     ensures inside { λ r. ⌜ made r (λ v. ScanBelow (now (t .entry) .count) (v .0)) ⌝ }
     ensures stepped { λ r. ⌜ made r (λ v. Stepped fuel start (v .1)) ⌝ }
@@ -113,6 +147,7 @@ pub fn scan_rows(
 
 /// The first unknown row is remembered.
 fn first_unsure(found: Scan, h: usize) -> Scan
+    ensures value { λ r. ⌜ r ≡ firstUnsure found h ⌝ }
     ensures inside { λ r. ⌜ (ScanBelow h found → ScanBelow (h + 1) r) ⌝ }
 {
     match found {

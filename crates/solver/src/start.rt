@@ -2,10 +2,14 @@
 ghost use mathlib.Core.Path.{_≡_};
 ghost use Prim.Native.Nat.{_+_, _^_, _<_, _≤_};
 ghost use lib.IntN.{natAbs};
-ghost use Rattle.base.specs.Numbers.{AllWithin};
+ghost use mathlib.Core.List.{[], _∷_, _++_, map};
+ghost use Rattle.base.specs.Numbers.{AllWithin, at};
 ghost use Rattle.tableau.specs.Rows.{Sound};
-ghost use Rattle.tableau.specs.Tables.{Ready};
-ghost use Rattle.solver.specs.Bounds.{ContextReady};
+ghost use lib.ListN.{getD};
+ghost use Rattle.tableau.specs.Tables.{Ready, inUse, noRow, top};
+ghost use Rattle.solver.specs.Bounds.{ContextReady, inForce};
+ghost use Rattle.solver.specs.Tests.{testRow, unitRow, unitRows};
+ghost use Rattle.solver.specs.Ties.{rest};
 use crate::context::Context;
 use base::form::CONSTANT;
 use base::form::Form;
@@ -26,6 +30,7 @@ pub const FIRST_NEW: usize = 4;
 /// The row of an unknown: itself.
 fn unit(h: usize) -> Row
     requires { ⌜ h < 9 ⌝ }
+    ensures value { λ r. ⌜ r ≡ unitRow h ⌝ }
     ensures sound { λ r. ⌜ Sound r ⌝ }
 {
     let mut coefs = [0; 9];
@@ -40,6 +45,7 @@ fn unit(h: usize) -> Row
 /// Inner: a table whose rows are the unknowns themselves.
 pub fn unit_table(unknowns: usize) -> Table
     requires { ⌜ unknowns ≤ 9 ⌝ }
+    ensures rows { λ r. ⌜ inUse r ≡ unitRows 0 unknowns ⌝ }
     ensures ready { λ r. ⌜ Ready r ⌝ }
     ensures counts { λ r. ⌜ (r .count ≡ unknowns) × (r .unknowns ≡ unknowns) ⌝ }
 {
@@ -59,6 +65,10 @@ pub fn push_row(t: &mut Table, row: Row)
     requires ready { ⌜ Ready (now t) ⌝ }
     requires room { ⌜ now t .count < 64 ⌝ }
     requires sound { ⌜ Sound row ⌝ }
+    ensures rows { λ _. ⌜ inUse (now (t .exit)) ≡ inUse (now (t .entry)) ++ row ∷ [] ⌝ }
+    ensures row { λ _. ⌜ getD (now (t .exit) .rows) (now (t .entry) .count) noRow ≡ row ⌝ }
+    ensures top { λ _. ⌜ top (now (t .exit)) ≡ top (now (t .entry)) ⌝ }
+    ensures rest { λ _. ⌜ rest (now (t .exit)) ≡ rest (now (t .entry)) ++ row ∷ [] ⌝ }
     ensures ready { λ _. ⌜ Ready (now (t .exit)) ⌝ }
     ensures counts { λ _. ⌜ (now (t .exit) .count ≡ now (t .entry) .count + 1) × (now (t .exit) .unknowns ≡ now (t .entry) .unknowns) ⌝ }
 {
@@ -71,6 +81,8 @@ pub fn push_row(t: &mut Table, row: Row)
 fn test_coefficient(form: &Form, parameters: usize, made: usize, l: usize) -> i64
     requires small { ⌜ AllWithin (2 ^ 30) (now form) ⌝ }
     requires few { ⌜ (parameters ≤ 4) × (made ≤ 5) ⌝ }
+    requires column { ⌜ l < 9 ⌝ }
+    ensures value { λ r. ⌜ r ≡ at (testRow parameters made (now (form .entry)) .coefs) l ⌝ }
     ensures small { λ r. ⌜ natAbs r ≤ 2 ^ 30 ⌝ }
 {
     if l < parameters {
@@ -86,6 +98,7 @@ fn test_coefficient(form: &Form, parameters: usize, made: usize, l: usize) -> i6
 fn test_row(form: &Form, parameters: usize, made: usize) -> Row
     requires small { ⌜ AllWithin (2 ^ 30) (now form) ⌝ }
     requires few { ⌜ (parameters ≤ 4) × (made ≤ 5) ⌝ }
+    ensures value { λ r. ⌜ r ≡ testRow parameters made (now (form .entry)) ⌝ }
     ensures sound { λ r. ⌜ Sound r ⌝ }
 {
     let mut coefs = [0; 9];
@@ -105,6 +118,7 @@ fn test_row(form: &Form, parameters: usize, made: usize) -> Row
 /// context.
 pub fn test_table(ctx: &Context) -> Table
     requires { ⌜ ContextReady (now ctx) ⌝ }
+    ensures rows { λ r. ⌜ inUse r ≡ unitRows 0 (now (ctx .entry) .parameters + now (ctx .entry) .made) ++ map (testRow (now (ctx .entry) .parameters) (now (ctx .entry) .made)) (inForce (now (ctx .entry))) ⌝ }
     ensures ready { λ r. ⌜ Ready r ⌝ }
     ensures counts { λ r. ⌜ (r .count ≡ now (ctx .entry) .parameters + now (ctx .entry) .made + now (ctx .entry) .count) × (r .unknowns ≡ now (ctx .entry) .parameters + now (ctx .entry) .made) ⌝ }
 {

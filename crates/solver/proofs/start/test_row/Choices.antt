@@ -1,8 +1,9 @@
 use Prim.Native.Nat.{_^_}
-use mathlib.Core.Path.{_≡_}
-use lib.ListN.{length}
+use lib.IntN.{pos}
 use Rattle.base.specs.Numbers.{AllWithin}
+use Rattle.base.proofs.Fill.{Filled}
+use Rattle.solver.specs.Tests.{testRow}
 use Rattle.solver.proofs.start.test_row.Given as given
 
 abbrev pub Inv-loop-l : given.InvT-loop-l
-Inv-loop-l l = (length (l .coefs) ≡ 9) × AllWithin (2 ^ 30) (l .coefs)
+Inv-loop-l l = Filled (pos 0) (testRow (l .parameters) (l .made) (l .form) .coefs) (l .entry .coefs) (l .coefs) (l .l) × AllWithin (2 ^ 30) (l .coefs)
