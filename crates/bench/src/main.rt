@@ -65,7 +65,10 @@ fn run(rt: &LibcRuntime) -> Result<(), AnyError> {
     let mut args = env::args(rt)?;
     let _ = args.next();
     let file = args.next().ok_or("bench FILE ROUNDS")?;
-    let rounds = args.next().ok_or("bench FILE ROUNDS")?.as_str().parse::<u32>()?;
+    let rounds = args.next()
+        .ok_or("bench FILE ROUNDS")?
+        .as_str()
+        .parse::<u32>()?;
     let text = fs::read_to_string(rt, file.as_str())?;
     let start = Instant::now(rt)?;
     let tally = solve_all(text.as_str(), rounds);

@@ -1,5 +1,4 @@
 mod WordSteps
 mod NumberSteps
 mod RowSteps
-mod SystemSteps
 mod Prints

@@ -35,7 +35,7 @@ abbrev turn : ℕ → List ℕ → Option ℤ → Result Numbers Refusal
 turn more rest (Some x) = andThen (firstNumbers more rest) (λ t. Ok (with x t))
 turn more rest None = Err Listing
 
-pub number-read : (more : ℕ) (text rest : List ℕ) (xs : List ℤ) (x : ℤ) → numberOf (firstWord text) ≡ Some x → rest ≡ afterWord text → then xs (firstNumbers (suc more) text) ≡ then (xs ++ x ∷ []) (firstNumbers more rest)
+number-read : (more : ℕ) (text rest : List ℕ) (xs : List ℤ) (x : ℤ) → numberOf (firstWord text) ≡ Some x → rest ≡ afterWord text → then xs (firstNumbers (suc more) text) ≡ then (xs ++ x ∷ []) (firstNumbers more rest)
 number-read more text rest xs x e f =
     ap (λ o. then xs (turn more (afterWord text) o)) e ∙ (then-with xs x (firstNumbers more (afterWord text)) ∙ ap (λ t. then (xs ++ x ∷ []) (firstNumbers more t)) (sym f))
 

@@ -1,7 +1,6 @@
 -- What a listing says: n p m k fuel, then m rows, then k context rows, all of it numbers.
 use mathlib.Core.Bool.{Bool, cond}
 use mathlib.Core.List.{List, [], _∷_}
-use mathlib.Core.Path.{_≡_}
 use Prim.Native.Nat.{ℕ, zero, suc, _+_, _*_, _≤_}
 use denote.Ref.{RefT}
 use lib.Dec.{leb, eqb}
@@ -58,6 +57,7 @@ countsOf xs =
     andThen (countAt xs 0) (λ n. andThen (countAt xs 1) (λ p. andThen (countAt xs 2) (λ m. andThen (countAt xs 3) (λ k.
     andThen (countsAnswer n p m k) (λ _. Ok (record { n = n; p = p; m = m; k = k }))))))
 
+-- counts in limits, one by one
 pub record Small (C : Counts) : Type 0 where
   pub n : C .n ≤ 6
   pub p : C .p ≤ 4
@@ -78,10 +78,10 @@ beforeContext C = 1 + C .m * rowLength C
 abbrev pub total : Counts → ℕ
 total C = beforeContext C + C .k * contextRowLength C
 
--- rows of the same length, one after another
+-- so many rows of the same width, one after another
 abbrev pub rowsOf : ℕ → ℕ → List ℤ → List (List ℤ)
-rowsOf zero length xs = []
-rowsOf (suc more) length xs = take length xs ∷ rowsOf more length (drop length xs)
+rowsOf zero width xs = []
+rowsOf (suc more) width xs = take width xs ∷ rowsOf more width (drop width xs)
 
 -- every row in turn, by what one answers and the system that it leaves; the first refusal ends it
 abbrev pub eachRow : (System → List ℤ → Result (Unit {0}) Refusal) → (System → List ℤ → System) → List (List ℤ) → System → Result System Refusal
@@ -105,16 +105,20 @@ pub record Meant : Type 0 where
   pub fuel : ℤ
 
 -- the numbers after the counts are the fuel, the rows and the context rows
+abbrev pub rowsIn : Counts → List ℤ → List (List ℤ)
+rowsIn C xs = rowsOf (C .m) (rowLength C) (drop 1 xs)
+
+abbrev pub contextRowsIn : Counts → List ℤ → List (List ℤ)
+contextRowsIn C xs = rowsOf (C .k) (contextRowLength C) (drop (beforeContext C) xs)
+
 abbrev pub systemAnswer : Counts → List ℤ → Result System Refusal
-systemAnswer C xs =
-    andThen (newAnswer (C .n) (C .p)) (λ S.
-    andThen (enterAll (rowsOf (C .m) (rowLength C) (drop 1 xs)) S) (λ T.
-    confineAll (rowsOf (C .k) (contextRowLength C) (drop (beforeContext C) xs)) T))
+systemAnswer C xs = andThen (newAnswer (C .n) (C .p)) (λ S. andThen (enterAll (rowsIn C xs) S) (confineAll (contextRowsIn C xs)))
 
 -- whether no word is left
 abbrev pub isEnd : List ℕ → Bool
 isEnd text = eqb (length (afterBlanks text)) 0
 
+-- what follows the counts: so many numbers and no further word; the first number is the fuel
 abbrev pub bodyAnswer : Counts → List ℕ → Result Meant Refusal
 bodyAnswer C text =
     andThen (firstNumbers (total C) text) (λ t.
@@ -131,6 +135,7 @@ readAnswer text =
     andThen (countsOf (t .values)) (λ C.
     cond (isShort text) (bodyAnswer C (t .rest)) (Err ListingRefused)))
 
+-- what the code's answer means
 abbrev pub understood : Result Listing Refusal → Result Meant Refusal
 understood (Ok l) = Ok (record { system = meaningOf (l .source); fuel = l .fuel })
 understood (Err e) = Err e

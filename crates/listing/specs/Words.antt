@@ -33,7 +33,7 @@ afterWord text = drop (wordLength (afterBlanks text)) (afterBlanks text)
 abbrev pub digitOf : ℕ → Option ℕ
 digitOf b = cond (leb 48 b && leb b 57) (Some (b - 48)) None
 
--- the number that digits spell after x: each next one counts ten times less
+-- the number that x spells with these digits after it; none where a byte is no digit
 abbrev pub spelledFrom : ℕ → List ℕ → Option ℕ
 spelledFrom x [] = Some x
 spelledFrom x (b ∷ bs) = elim (digitOf b) [ Some d ↦ spelledFrom (x * 10 + d) bs | None ↦ None ]
@@ -42,6 +42,7 @@ spelledFrom x (b ∷ bs) = elim (digitOf b) [ Some d ↦ spelledFrom (x * 10 + d
 abbrev pub naturalOf : List ℕ → Option ℕ
 naturalOf ds = cond (leb 1 (length ds) && leb (length ds) 9) (spelledFrom 0 ds) None
 
+-- the same as a whole number, and with a minus
 abbrev pub plus : Option ℕ → Option ℤ
 plus None = None
 plus (Some x) = Some (pos x)

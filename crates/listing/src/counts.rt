@@ -8,11 +8,11 @@ use source::limits::check_counts;
 
 /// How many unknowns, parameters, rows and context rows a listing has.
 #[derive(Clone, Copy)]
-pub struct Counts {
-    pub n: usize,
-    pub p: usize,
-    pub m: usize,
-    pub k: usize,
+pub(crate) struct Counts {
+    pub(crate) n: usize,
+    pub(crate) p: usize,
+    pub(crate) m: usize,
+    pub(crate) k: usize,
 }
 
 /// A count, which is not below 0.
@@ -28,7 +28,7 @@ fn count(x: i64) -> Result<usize, Refusal>
 
 impl Counts {
     /// n p m k, unless they are out of limits.
-    pub fn of(numbers: &[i64; 4]) -> Result<Counts, Refusal>
+    pub(crate) fn of(numbers: &[i64; 4]) -> Result<Counts, Refusal>
         ensures answer { λ r. ⌜ r ≡ countsOf (now (numbers .entry)) ⌝ }
         ensures small { λ r. ⌜ made r Small ⌝ }
     {
@@ -41,7 +41,7 @@ impl Counts {
     }
 
     /// How many numbers a row has.
-    pub fn row_length(self) -> usize
+    pub(crate) fn row_length(self) -> usize
         requires { ⌜ Small self ⌝ }
         ensures value { λ r. ⌜ r ≡ rowLength self ⌝ }
     {
@@ -49,7 +49,7 @@ impl Counts {
     }
 
     /// How many numbers a context row has.
-    pub fn context_row_length(self) -> usize
+    pub(crate) fn context_row_length(self) -> usize
         requires { ⌜ Small self ⌝ }
         ensures value { λ r. ⌜ r ≡ contextRowLength self ⌝ }
     {
@@ -57,7 +57,7 @@ impl Counts {
     }
 
     /// How many numbers stand before the context rows: the fuel and the rows.
-    pub fn before_context(self) -> usize
+    pub(crate) fn before_context(self) -> usize
         requires { ⌜ Small self ⌝ }
         ensures value { λ r. ⌜ r ≡ beforeContext self ⌝ }
         ensures few { λ r. ⌜ r ≤ 177 ⌝ }
@@ -66,7 +66,7 @@ impl Counts {
     }
 
     /// How many numbers follow the counts.
-    pub fn total(self) -> usize
+    pub(crate) fn total(self) -> usize
         requires { ⌜ Small self ⌝ }
         ensures value { λ r. ⌜ r ≡ total self ⌝ }
         ensures few { λ r. ⌜ r ≤ 217 ⌝ }

@@ -22,7 +22,7 @@ fn next_number(text: &[u8]) -> Result<(i64, &[u8]), Refusal>
 
 /// Writes the numbers that the first words spell into the places, and answers what stands after
 /// them.
-pub fn first_numbers<'a>(text: &'a [u8], places: &mut [i64]) -> Result<&'a [u8], Refusal>
+pub(crate) fn first_numbers<'a>(text: &'a [u8], places: &mut [i64]) -> Result<&'a [u8], Refusal>
     ensures answer { λ r. ⌜ firstNumbers (length (now (places .entry))) (now (text .entry)) ≡ reached (now (places .exit)) r ⌝ }
 {
     let mut rest = text;

@@ -1,9 +1,9 @@
 //! Reading a listing.
 ghost use mathlib.Core.Path.{_≡_};
-ghost use Prim.Native.Nat.{_+_, _*_, _≤_};
+ghost use Prim.Native.Nat.{_*_, _≤_};
 ghost use lib.ListN.{length};
 ghost use Rattle.source.specs.RowSources.{meaningOf, meant};
-ghost use Rattle.listing.specs.Listings.{Small, arrived, bodyAnswer, confineAll, enterAll, isEnd, isShort, readAnswer, rowsOf, systemAnswer, total, understood};
+ghost use Rattle.listing.specs.Listings.{Small, arrived, bodyAnswer, confineAll, contextRowsIn, enterAll, isEnd, isShort, readAnswer, rowsIn, rowsOf, systemAnswer, total, understood};
 use crate::counts::Counts;
 use crate::numbers::first_numbers;
 use crate::word::after_blanks;
@@ -38,7 +38,7 @@ fn is_short(text: &[u8]) -> bool
 }
 
 /// Enters rows that stand one after another.
-fn enter_rows(
+fn enter_each(
     source: &mut RowSource,
     count: usize,
     width: usize,
@@ -57,7 +57,7 @@ fn enter_rows(
 }
 
 /// Adds context rows that stand one after another.
-fn confine_rows(
+fn confine_each(
     source: &mut RowSource,
     count: usize,
     width: usize,
@@ -75,6 +75,26 @@ fn confine_rows(
     Ok(())
 }
 
+/// Enters the rows, which stand after the fuel.
+fn enter_rows(source: &mut RowSource, counts: Counts, numbers: &[i64]) -> Result<(), Refusal>
+    requires small { ⌜ Small counts ⌝ }
+    requires full { ⌜ length (now numbers) ≡ total counts ⌝ }
+    ensures answer { λ r. ⌜ arrived (meaningOf (now (source .exit))) r ≡ enterAll (rowsIn counts (now (numbers .entry))) (meaningOf (now (source .entry))) ⌝ }
+{
+    let (_, rows) = numbers.split_at(1);
+    enter_each(source, counts.m, counts.row_length(), rows)
+}
+
+/// Adds the context rows, which stand last.
+fn confine_rows(source: &mut RowSource, counts: Counts, numbers: &[i64]) -> Result<(), Refusal>
+    requires small { ⌜ Small counts ⌝ }
+    requires full { ⌜ length (now numbers) ≡ total counts ⌝ }
+    ensures answer { λ r. ⌜ arrived (meaningOf (now (source .exit))) r ≡ confineAll (contextRowsIn counts (now (numbers .entry))) (meaningOf (now (source .entry))) ⌝ }
+{
+    let (_, rows) = numbers.split_at(counts.before_context());
+    confine_each(source, counts.k, counts.context_row_length(), rows)
+}
+
 /// The system of the numbers that follow the counts.
 fn system(counts: Counts, numbers: &[i64]) -> Result<RowSource, Refusal>
     requires small { ⌜ Small counts ⌝ }
@@ -82,9 +102,8 @@ fn system(counts: Counts, numbers: &[i64]) -> Result<RowSource, Refusal>
     ensures answer { λ r. ⌜ meant r ≡ systemAnswer counts (now (numbers .entry)) ⌝ }
 {
     let mut source = RowSource::new(counts.n, counts.p)?;
-    enter_rows(&mut source, counts.m, counts.row_length(), &numbers[1..])?;
-    let context = &numbers[counts.before_context()..];
-    confine_rows(&mut source, counts.k, counts.context_row_length(), context)?;
+    enter_rows(&mut source, counts, numbers)?;
+    confine_rows(&mut source, counts, numbers)?;
     Ok(source)
 }
 

@@ -2,6 +2,7 @@
 ghost use mathlib.Core.Path.{_≡_};
 ghost use Prim.Native.Nat.{_≤_};
 ghost use lib.Dec.{leb};
+ghost use lib.IntN.{negℤ, pos};
 ghost use lib.ListN.{length};
 ghost use mathlib.Core.Bool.{_&&_};
 ghost use Rattle.std.specs.Options.{Cases};
@@ -34,8 +35,8 @@ fn word_length(text: &[u8]) -> usize
     ensures value { λ r. ⌜ r ≡ wordLength (now (text .entry)) ⌝ }
     ensures within { λ r. ⌜ r ≤ length (now (text .entry)) ⌝ }
 {
-    for i in 0..text.len() {
-        if is_blank(text[i]) {
+    for (i, b) in text.iter().enumerate() {
+        if is_blank(*b) {
             return i;
         }
     }
@@ -83,6 +84,13 @@ fn natural(digits: &[u8]) -> Option<u32>
     Some(x)
 }
 
+/// The number with a minus.
+fn negated(x: u32) -> i64
+    ensures value { λ r. ⌜ r ≡ negℤ (pos x) ⌝ }
+{
+    -i64::from(x)
+}
+
 /// The number that a word spells: 1 to 9 digits, a minus before them allowed.
 pub fn number(word: &[u8]) -> Option<i64>
     ensures value { λ r. ⌜ r ≡ numberOf (now (word .entry)) ⌝ }
@@ -90,7 +98,7 @@ pub fn number(word: &[u8]) -> Option<i64>
     match word {
         [first, digits @ ..] if *first == b'-' => {
             let x = natural(digits)?;
-            Some(-i64::from(x))
+            Some(negated(x))
         }
         _ => {
             let x = natural(word)?;

@@ -59,8 +59,10 @@ neg-some k (r ∷ rs) h e = go (neg-some (k + 1) rs h) (ltZ (at (r .form) 9) (po
   where
     shift : (k + 1 ≤ h) → getD (r ∷ rs) (h - k) noRow ≡ getD rs (h - (k + 1)) noRow
     shift le = let e : h - k ≡ suc (h - (k + 1)) = omega arith in ap (λ n. getD (r ∷ rs) n noRow) e
+
     here : k ≡ h → getD (r ∷ rs) (h - k) noRow ≡ r
     here q = let e : h - k ≡ 0 = omega arith in ap (λ n. getD (r ∷ rs) n noRow) e
+
     go : (firstNegative (k + 1) rs ≡ Some h → (k + 1 ≤ h) × (negScan rs ≡ below (getD rs (h - (k + 1)) noRow))) → (b : Bool) → cond b (Some k) (firstNegative (k + 1) rs) ≡ Some h → (k ≤ h) × (cond b (below r) (negScan rs) ≡ below (getD (r ∷ rs) (h - k) noRow))
     go ih true e = let q : k ≡ h = cc in (omega arith, ap below (sym (here q)))
     go ih false e = let v = ih e in (omega (arith, v .0), v .1 ∙ ap below (sym (shift (v .0))))
@@ -80,8 +82,10 @@ frac-some k (r ∷ rs) h e = go (frac-some (k + 1) rs h) (whole r) e
   where
     shift : (k + 1 ≤ h) → getD (r ∷ rs) (h - k) noRow ≡ getD rs (h - (k + 1)) noRow
     shift le = let e : h - k ≡ suc (h - (k + 1)) = omega arith in ap (λ n. getD (r ∷ rs) n noRow) e
+
     here : k ≡ h → getD (r ∷ rs) (h - k) noRow ≡ r
     here q = let e : h - k ≡ 0 = omega arith in ap (λ n. getD (r ∷ rs) n noRow) e
+
     go : (firstFraction (k + 1) rs ≡ Some h → (k + 1 ≤ h) × (fraction rs ≡ Some (getD rs (h - (k + 1)) noRow))) → (b : Bool) → cond b (firstFraction (k + 1) rs) (Some k) ≡ Some h → (k ≤ h) × (cond b (fraction rs) (Some r) ≡ Some (getD (r ∷ rs) (h - k) noRow))
     go ih false e = let q : k ≡ h = cc in (omega arith, ap Some (sym (here q)))
     go ih true e = let v = ih e in (omega (arith, v .0), v .1 ∙ ap Some (sym (shift (v .0))))
@@ -146,8 +150,10 @@ test-begins x t e inside rows =
   where
     n : ℕ
     n = x .parameters + x .made
+
     tops : top t ≡ unitRows 0 n
     tops = sym (take-take (t .unknowns) (t .count) (t .rows) inside) ∙ ap (take (t .unknowns)) rows ∙ take-at (unitRows 0 n) _ (t .unknowns) (length-units 0 n ∙ sym e)
+
     rests : rest t ≡ map (testRow (x .parameters) (x .made)) (inForce x)
     rests = ap (drop (t .unknowns)) rows ∙ drop-at (unitRows 0 n) _ (t .unknowns) (length-units 0 n ∙ sym e)
 

@@ -87,13 +87,13 @@ module _ (place : Place) (i : Row) (j : ℕ) (t : Table) (s : Work) (fuel room :
 
     turned-table : turnedWork i j (withTable t s) ≡ withTable u s
     turned-table =
-        λ m. record
-        { top = sym (top-mapped (pivoted i j) t u h (counts .0) (counts .1) rows) m
-        ; rest = sym (rest-mapped (pivoted i j) t u h (counts .0) (counts .1) rows) m
-        ; context = s .context
-        ; parameters = s .parameters
-        ; made = s .made
-        ; cuts = s .cuts
+        λ m. record {
+          top = sym (top-mapped (pivoted i j) t u h (counts .0) (counts .1) rows) m;
+          rest = sym (rest-mapped (pivoted i j) t u h (counts .0) (counts .1) rows) m;
+          context = s .context;
+          parameters = s .parameters;
+          made = s .made;
+          cuts = s .cuts;
         }
 
     pub turn-made : allFit (inUse u) ≡ true → turn place i j (withTable t s) (limits fuel room) c ≡ Ok (withTable u s, d)

@@ -67,11 +67,11 @@ pub record Way : Type 0 where
 -- pivot at row i and column j
 unfoldable pub turn : Place → Row → ℕ → Work → Run Work
 turn place i j s =
-  let top = map (pivoted i j) (s .top) in
-  let rest = map (pivoted i j) (s .rest) in do
-  tick place
-  ranged place (allFit (top ++ rest))
-  return (record { top = top; rest = rest; context = s .context; parameters = s .parameters; made = s .made; cuts = s .cuts })
+    let top = map (pivoted i j) (s .top) in
+    let rest = map (pivoted i j) (s .rest) in do
+      tick place
+      ranged place (allFit (top ++ rest))
+      return (record { top = top; rest = rest; context = s .context; parameters = s .parameters; made = s .made; cuts = s .cuts })
 
 -- a negative row: pivot, or there is no point
 unfoldable pub lift : Place → (Work → Run Tree) → Work → Row → Option ℕ → Run Tree
@@ -87,9 +87,9 @@ added place again s i (Some j) = turn place i j s >>= again
 
 unfoldable pub withRow : Place → (Work → Run Tree) → Work → List (List ℤ) → ℕ → Row → Run Tree
 withRow place again s context made r =
-  let s′ : Work = record { top = s .top; rest = s .rest ++ r ∷ []; context = context; parameters = s .parameters; made = made; cuts = suc (s .cuts) } in do
-  ranged place (fits r)
-  added place again s′ r (entering (s .top) r)
+    let s′ : Work = record { top = s .top; rest = s .rest ++ r ∷ []; context = context; parameters = s .parameters; made = made; cuts = suc (s .cuts) } in do
+      ranged place (fits r)
+      added place again s′ r (entering (s .top) r)
 
 -- T is a constant: the cut row is (r - T) / d
 unfoldable pub cutPlain : Place → (Work → Run Tree) → Work → Cut → Run Tree
@@ -100,19 +100,19 @@ cutPlain place again s c = do
 -- otherwise a new parameter q = floor(T / d) is made, and its two rows join the context
 unfoldable pub cutNew : Place → (Work → Run Tree) → Work → Cut → Run Tree
 cutNew place again s c =
-  let q = 4 + s .made in do
-  tick place
-  write place
-  ranged place (within (lower c q) && within (upper c q))
-  t ← withRow place again s (s .context ++ (lower c q ∷ (upper c q ∷ []))) (suc (s .made)) (cutRow c (Some q))
-  return (new (c .div) (c .form) t)
+    let q = 4 + s .made in do
+      tick place
+      write place
+      ranged place (within (lower c q) && within (upper c q))
+      t ← withRow place again s (s .context ++ (lower c q ∷ (upper c q ∷ []))) (suc (s .made)) (cutRow c (Some q))
+      return (new (c .div) (c .form) t)
 
 unfoldable pub cut : Place → (Work → Run Tree) → Work → Cut → Run Tree
 cut place again s c =
-  cond (eqb (s .cuts) 24) (bar Cuts place)
-  (cond (isConstant c) (cutPlain place again s c)
-  (cond (eqb (s .made) 5) (bar NewParameters place)
-  (cutNew place again s c)))
+    cond (eqb (s .cuts) 24) (bar Cuts place)
+    (cond (isConstant c) (cutPlain place again s c)
+    (cond (eqb (s .made) 5) (bar NewParameters place)
+    (cutNew place again s c)))
 
 -- the first of the unknowns' rows whose form has a number that its divisor does not divide
 abbrev pub fraction : List Row → Option Row
@@ -187,9 +187,9 @@ afterBelow s C false = return NonNegative
 
 unfoldable pub signIn : Work → List ℤ → Run Sign
 signIn s C =
-  cond (noneBelow C) (return NonNegative)
-  (cond (ltZ (at C 9) (pos 0) && noneAbove C) (return Negative)
-  (testWith s (opposite C) >>= afterBelow s C))
+    cond (noneBelow C) (return NonNegative)
+    (cond (ltZ (at C 9) (pos 0) && noneAbove C) (return Negative)
+    (testWith s (opposite C) >>= afterBelow s C))
 
 -- ---- the tree: both branches of a split start from the work before it; `left` splits may still stand one below the other
 abbrev pub where-form : Work → List ℤ → Work

@@ -46,13 +46,13 @@ contextOf S = map (λ row. formOf (S .p) (fitted (S .p + 1) row)) (S .context)
 -- one row for each unknown (itself), then the system's rows; the context is the system's context rows
 abbrev pub start : System → Work
 start S =
-    record
-    { top = unitRows 0 (S .n)
-    ; rest = map (rowOf (S .n) (S .p)) (rowsOf S)
-    ; context = contextOf S
-    ; parameters = S .p
-    ; made = 0
-    ; cuts = 0
+    record {
+      top = unitRows 0 (S .n);
+      rest = map (rowOf (S .n) (S .p)) (rowsOf S);
+      context = contextOf S;
+      parameters = S .p;
+      made = 0;
+      cuts = 0;
     }
 
 -- ---- the limits of a system, in this order

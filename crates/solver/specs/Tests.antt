@@ -21,8 +21,8 @@ unitRows h (suc k) = unitRow h ∷ unitRows (suc h) k
 -- a form as a row of a test: the p parameters and the new ones made so far are its unknowns, and it has no parameters
 abbrev pub testRow : ℕ → ℕ → List ℤ → Row
 testRow p made C =
-    record
-    { coefs = take p C ++ (take made (drop 4 C) ++ zeros (9 - (p + made)))
-    ; form = set (zeros 10) 9 (at C 9)
-    ; div = pos 1
+    record {
+      coefs = take p C ++ (take made (drop 4 C) ++ zeros (9 - (p + made)));
+      form = set (zeros 10) 9 (at C 9);
+      div = pos 1;
     }

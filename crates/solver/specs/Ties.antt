@@ -44,13 +44,13 @@ testOf t cuts = record { top = top t; rest = rest t; context = []; parameters = 
 
 abbrev pub workOf : State → Work
 workOf s =
-    record
-    { top = top (s .table)
-    ; rest = rest (s .table)
-    ; context = inForce (s .context)
-    ; parameters = s .context .parameters
-    ; made = s .context .made
-    ; cuts = s .cuts
+    record {
+      top = top (s .table);
+      rest = rest (s .table);
+      context = inForce (s .context);
+      parameters = s .context .parameters;
+      made = s .context .made;
+      cuts = s .cuts;
     }
 
 -- what a move on the table answers: the work with the table after it, or a refusal

@@ -3,13 +3,12 @@ use mathlib.Core.Bool.{true, _&&_}
 use mathlib.Core.List.{List}
 use mathlib.Core.Path.{_≡_, sym, _∙_}
 use native.Mathlib.Omega.{arith}
-use Prim.Native.Nat.{ℕ, _<_, _≤_}
+use Prim.Native.Nat.{ℕ, _≤_}
 use lib.Dec.{leb}
 use lib.ListN.{length}
 use Rattle.std.proofs.shelf.Lists.{at-drop-all}
 use Rattle.std.proofs.shelf.Tests.{and-parts, leb-true, cond-true}
-use Rattle.std.specs.declared.option.Option.the-variants.{Some, None}
-use Rattle.listing.specs.Words.{digitOf, spelledFrom, naturalOf}
+use Rattle.listing.specs.Words.{spelledFrom, naturalOf}
 use Rattle.listing.proofs.WordSteps.{digit-passed, no-digit, below-power, nine-fit}
 use Rattle.listing.proofs.word.natural.Needs as need
 

@@ -1,6 +1,6 @@
 use mathlib.Core.Path.{_≡_, sym, _∙_, ap}
 use native.Mathlib.Omega.{arith}
-use lib.IntN.{pos, negℤ, _-ℤ_}
+use lib.IntN.{pos, negℤ}
 use mir.Syntax.{w64}
 use mir.Val.{toZ, ofZ}
 use Rattle.std.proofs.shelf.Signed.{ints}
@@ -17,5 +17,5 @@ returns-in-Break-x c =
 pub returns-in-Continue-x : need.returns-in-Continue-x
 returns-in-Continue-x c =
     let e = after-minus (c .args .word .now) (c .if-first-eq45 .taken) in
-    let z : toZ w64 (ofZ w64 (pos 0 -ℤ toZ w64 (ofZ w64 (c .from .result)))) ≡ negℤ (pos (c .in-Continue-x .x)) = omega (arith, ints) in
+    let z : toZ w64 (ofZ w64 (c .negated .result)) ≡ negℤ (pos (c .in-Continue-x .x)) = omega (arith, ints) in
     record { value = ap Some z ∙ (ap minus (c .in-Continue-x .ensures tt .value) ∙ sym e) }

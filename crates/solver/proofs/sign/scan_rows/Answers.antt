@@ -22,12 +22,12 @@ loop-h-holds c = (same-refl (c .args .ctx .now), tt, stepped-refl (c .args .fuel
 pub sign-of-requires : need.sign-of-requires
 sign-of-requires c κs =
     let i = c .loop-h .inv in
-    record
-    { small = c .pre .table .sound (c .loop-h .h) (omega arith) .form-small
-    ; ready = context-same (c .args .ctx .now) (c .loop-h .ctx) (i .0) (c .pre .ready)
-    ; room = omega (arith, i .0 .count, c .pre .room)
-    ; within = i .2 .within
-    ; fuel = c .pre .fuel
+    record {
+      small = c .pre .table .sound (c .loop-h .h) (omega arith) .form-small;
+      ready = context-same (c .args .ctx .now) (c .loop-h .ctx) (i .0) (c .pre .ready);
+      room = omega (arith, i .0 .count, c .pre .room);
+      within = i .2 .within;
+      fuel = c .pre .fuel;
     }
 
 pub returns-in-Break-s : need.returns-in-Break-s
@@ -37,14 +37,14 @@ returns-in-Break-s c =
     let row = getD (t .rows) h noRow in
     let i = c .loop-h .inv in
     let p = err-from-errBy (c .from-residual .result) (c .from-residual .ensures .1) in
-    record
-    { value = λ s n k.
-        i .4 s n k ∙ used-more (λ rs. remembered (t .rows) (c .loop-h .found) (scan (signIn s) rs (limits (c .args .fuel) n) (c .loop-h .count))) t h (c .loop-h-test .taken) (search needs)
-        ∙ scan-broken (signIn s) (t .rows) (c .loop-h .found) row (drop (h + 1) (inUse t)) (limits (c .args .fuel) n) (c .loop-h .count) (c .in-Break-s .field-0 .0) (c .sign-of .ensures .value s n (known-same (c .args .ctx .now) (c .loop-h .ctx) s (i .0) k) ∙ c .in-Break-s .was tt)
-        ∙ sym (ap (scannedAt (t .rows)) (p .1 ∙ ap Err (p .2)))
-    ; kept = same-trans (c .args .ctx .now) (c .loop-h .ctx) (c .sign-of .last .ctx) (i .0) (c .sign-of .ensures .kept)
-    ; inside = made-from-err _ _ (c .from-residual .ensures .0)
-    ; stepped = made-from-err _ _ (c .from-residual .ensures .0)
+    record {
+      value = λ s n k.
+          i .4 s n k ∙ used-more (λ rs. remembered (t .rows) (c .loop-h .found) (scan (signIn s) rs (limits (c .args .fuel) n) (c .loop-h .count))) t h (c .loop-h-test .taken) (search needs)
+          ∙ scan-broken (signIn s) (t .rows) (c .loop-h .found) row (drop (h + 1) (inUse t)) (limits (c .args .fuel) n) (c .loop-h .count) (c .in-Break-s .field-0 .0) (c .sign-of .ensures .value s n (known-same (c .args .ctx .now) (c .loop-h .ctx) s (i .0) k) ∙ c .in-Break-s .was tt)
+          ∙ sym (ap (scannedAt (t .rows)) (p .1 ∙ ap Err (p .2)));
+      kept = same-trans (c .args .ctx .now) (c .loop-h .ctx) (c .sign-of .last .ctx) (i .0) (c .sign-of .ensures .kept);
+      inside = made-from-err _ _ (c .from-residual .ensures .0);
+      stepped = made-from-err _ _ (c .from-residual .ensures .0);
     }
 
 pub returns-in-Negative : need.returns-in-Negative
@@ -53,26 +53,26 @@ returns-in-Negative c =
     let h = c .loop-h .h in
     let row = getD (t .rows) h noRow in
     let i = c .loop-h .inv in
-    record
-    { value = λ s n k.
-        i .4 s n k ∙ used-more (λ rs. remembered (t .rows) (c .loop-h .found) (scan (signIn s) rs (limits (c .args .fuel) n) (c .loop-h .count))) t h (c .loop-h-test .taken) (search needs)
-        ∙ scan-negative (signIn s) (t .rows) (c .loop-h .found) row (drop (h + 1) (inUse t)) (limits (c .args .fuel) n) (c .loop-h .count) (c .in-Continue-s .next) (c .sign-of .ensures .value s n (known-same (c .args .ctx .now) (c .loop-h .ctx) s (i .0) k) ∙ c .in-Continue-s .was tt ∙ ap (λ x. Ok (x, c .in-Continue-s .next)) (c .in-Negative .is))
-    ; kept = same-trans (c .args .ctx .now) (c .loop-h .ctx) (c .sign-of .last .ctx) (i .0) (c .sign-of .ensures .kept)
-    ; inside = c .loop-h-test .taken
-    ; stepped = stepped-trans (c .args .fuel) (c .args .start) (c .loop-h .count) (c .in-Continue-s .next) (i .2) (c .in-Continue-s .ensures tt .stepped)
+    record {
+      value = λ s n k.
+          i .4 s n k ∙ used-more (λ rs. remembered (t .rows) (c .loop-h .found) (scan (signIn s) rs (limits (c .args .fuel) n) (c .loop-h .count))) t h (c .loop-h-test .taken) (search needs)
+          ∙ scan-negative (signIn s) (t .rows) (c .loop-h .found) row (drop (h + 1) (inUse t)) (limits (c .args .fuel) n) (c .loop-h .count) (c .in-Continue-s .next) (c .sign-of .ensures .value s n (known-same (c .args .ctx .now) (c .loop-h .ctx) s (i .0) k) ∙ c .in-Continue-s .was tt ∙ ap (λ x. Ok (x, c .in-Continue-s .next)) (c .in-Negative .is));
+      kept = same-trans (c .args .ctx .now) (c .loop-h .ctx) (c .sign-of .last .ctx) (i .0) (c .sign-of .ensures .kept);
+      inside = c .loop-h-test .taken;
+      stepped = stepped-trans (c .args .fuel) (c .args .start) (c .loop-h .count) (c .in-Continue-s .next) (i .2) (c .in-Continue-s .ensures tt .stepped);
     }
 
 pub returns : need.returns
 returns c =
     let t = c .args .t .now in
     let i = c .loop-h .inv in
-    record
-    { value = λ s n k.
-        i .4 s n k ∙ used-all (λ rs. remembered (t .rows) (c .loop-h .found) (scan (signIn s) rs (limits (c .args .fuel) n) (c .loop-h .count))) t (c .loop-h .h) (c .loop-h-test .left)
-        ∙ ap (remembered (t .rows) (c .loop-h .found)) (scan-end (signIn s) (limits (c .args .fuel) n) (c .loop-h .count)) ∙ remembers-end (t .rows) (c .loop-h .found) (c .loop-h .count) (i .3)
-    ; kept = i .0
-    ; inside = search needs
-    ; stepped = i .2
+    record {
+      value = λ s n k.
+          i .4 s n k ∙ used-all (λ rs. remembered (t .rows) (c .loop-h .found) (scan (signIn s) rs (limits (c .args .fuel) n) (c .loop-h .count))) t (c .loop-h .h) (c .loop-h-test .left)
+          ∙ ap (remembered (t .rows) (c .loop-h .found)) (scan-end (signIn s) (limits (c .args .fuel) n) (c .loop-h .count)) ∙ remembers-end (t .rows) (c .loop-h .found) (c .loop-h .count) (i .3);
+      kept = i .0;
+      inside = search needs;
+      stepped = i .2;
     }
 
 pub loop-h-again : need.loop-h-again
@@ -84,18 +84,26 @@ loop-h-again c =
     let kept = same-trans (c .args .ctx .now) (c .loop-h .ctx) (c .sign-of .last .ctx) (i .0) (c .sign-of .ensures .kept) in
     let on = stepped-trans (c .args .fuel) (c .args .start) (c .loop-h .count) (c .in-Continue-s .next) (i .2) (c .in-Continue-s .ensures tt .stepped) in
     let G : Found → Type 0 = λ f. SameContext (c .args .ctx .now) (c .sign-of .last .ctx) × ScanBelow (h + 1) f × Stepped (c .args .fuel) (c .args .start) (c .in-Continue-s .next) × NotYet f
-        × ((s : Work) (n : ℕ) → KnownAs (c .args .ctx .now) s → scan (signIn s) (inUse t) (limits (c .args .fuel) n) (c .args .start) ≡ remembered (t .rows) f (scan (signIn s) (drop (h + 1) (inUse t)) (limits (c .args .fuel) n) (c .in-Continue-s .next))) in
-    elim (c .match-s .came)
-    [ in-NonNegative w ↦
-        subst G (sym (w .found-is))
-        ( kept, below-more (c .loop-h .found) h (i .1), on, i .3
-        , λ s n k.
-          i .4 s n k ∙ used-more (λ rs. remembered (t .rows) (c .loop-h .found) (scan (signIn s) rs (limits (c .args .fuel) n) (c .loop-h .count))) t h (c .loop-h-test .taken) (search needs)
-          ∙ scan-nonnegative (signIn s) (t .rows) (c .loop-h .found) row (drop (h + 1) (inUse t)) (limits (c .args .fuel) n) (c .loop-h .count) (c .in-Continue-s .next)  (c .sign-of .ensures .value s n (known-same (c .args .ctx .now) (c .loop-h .ctx) s (i .0) k) ∙ c .in-Continue-s .was tt ∙ ap (λ x. Ok (x, c .in-Continue-s .next)) (w .in-NonNegative .is)) )
-    | in-Unknown w ↦
-        subst G (sym (w .found-is ∙ w .first-unsure-found .ensures .value))
-        ( kept, below-unsure (c .loop-h .found) h (i .1), on, not-yet-unsure (c .loop-h .found) h (i .3)
-        , λ s n k.
-          i .4 s n k ∙ used-more (λ rs. remembered (t .rows) (c .loop-h .found) (scan (signIn s) rs (limits (c .args .fuel) n) (c .loop-h .count))) t h (c .loop-h-test .taken) (search needs)
-          ∙ scan-unknown (signIn s) (t .rows) (c .loop-h .found) row (drop (h + 1) (inUse t)) (limits (c .args .fuel) n) (c .loop-h .count) (c .in-Continue-s .next) h refl (i .3) (c .sign-of .ensures .value s n (known-same (c .args .ctx .now) (c .loop-h .ctx) s (i .0) k) ∙ c .in-Continue-s .was tt ∙ ap (λ x. Ok (x, c .in-Continue-s .next)) (w .in-Unknown .is)) )
+    × ((s : Work) (n : ℕ) → KnownAs (c .args .ctx .now) s → scan (signIn s) (inUse t) (limits (c .args .fuel) n) (c .args .start) ≡ remembered (t .rows) f (scan (signIn s) (drop (h + 1) (inUse t)) (limits (c .args .fuel) n) (c .in-Continue-s .next))) in
+    elim (c .match-s .came) [
+      | in-NonNegative w ↦
+          subst G (sym (w .found-is)) (
+            kept,
+            below-more (c .loop-h .found) h (i .1),
+            on,
+            i .3,
+            λ s n k.
+                i .4 s n k ∙ used-more (λ rs. remembered (t .rows) (c .loop-h .found) (scan (signIn s) rs (limits (c .args .fuel) n) (c .loop-h .count))) t h (c .loop-h-test .taken) (search needs)
+                ∙ scan-nonnegative (signIn s) (t .rows) (c .loop-h .found) row (drop (h + 1) (inUse t)) (limits (c .args .fuel) n) (c .loop-h .count) (c .in-Continue-s .next) (c .sign-of .ensures .value s n (known-same (c .args .ctx .now) (c .loop-h .ctx) s (i .0) k) ∙ c .in-Continue-s .was tt ∙ ap (λ x. Ok (x, c .in-Continue-s .next)) (w .in-NonNegative .is)),
+          )
+      | in-Unknown w ↦
+          subst G (sym (w .found-is ∙ w .first-unsure-found .ensures .value)) (
+            kept,
+            below-unsure (c .loop-h .found) h (i .1),
+            on,
+            not-yet-unsure (c .loop-h .found) h (i .3),
+            λ s n k.
+                i .4 s n k ∙ used-more (λ rs. remembered (t .rows) (c .loop-h .found) (scan (signIn s) rs (limits (c .args .fuel) n) (c .loop-h .count))) t h (c .loop-h-test .taken) (search needs)
+                ∙ scan-unknown (signIn s) (t .rows) (c .loop-h .found) row (drop (h + 1) (inUse t)) (limits (c .args .fuel) n) (c .loop-h .count) (c .in-Continue-s .next) h refl (i .3) (c .sign-of .ensures .value s n (known-same (c .args .ctx .now) (c .loop-h .ctx) s (i .0) k) ∙ c .in-Continue-s .was tt ∙ ap (λ x. Ok (x, c .in-Continue-s .next)) (w .in-Unknown .is)),
+          )
     ]

@@ -13,11 +13,11 @@ returns c =
     let t = c .args .t .now in
     let r = take-more-set (t .rows) (t .count) (c .args .row) (search needs) in
     let n : t .unknowns ≤ length (take (t .count) (t .rows)) = rw (length-take (t .count) (t .rows)) (omega (arith, c .pre .ready .inside)) in
-    record
-    { rows = r
-    ; row = getD-set-same (t .rows) (t .count) (c .args .row) noRow (search needs)
-    ; top = take-set-le (t .unknowns) (t .rows) (t .count) (c .args .row) (c .pre .ready .inside)
-    ; rest = ap (drop (t .unknowns)) r ∙ drop-append-le (t .unknowns) (take (t .count) (t .rows)) _ n
-    ; ready = ready-push t (c .args .row) (search needs) (c .pre .room) (c .pre .ready) (c .pre .sound)
-    ; counts = (refl, refl)
+    record {
+      rows = r;
+      row = getD-set-same (t .rows) (t .count) (c .args .row) noRow (search needs);
+      top = take-set-le (t .unknowns) (t .rows) (t .count) (c .args .row) (c .pre .ready .inside);
+      rest = ap (drop (t .unknowns)) r ∙ drop-append-le (t .unknowns) (take (t .count) (t .rows)) _ n;
+      ready = ready-push t (c .args .row) (search needs) (c .pre .room) (c .pre .ready) (c .pre .sound);
+      counts = (refl, refl);
     }

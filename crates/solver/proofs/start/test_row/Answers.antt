@@ -25,9 +25,10 @@ loop-l-again c =
     let S = testRow (c .args .parameters) (c .args .made) (c .args .form .now) .coefs in
     let w = test-width (c .args .parameters) (c .args .made) (c .args .form .now) (c .pre .few .0) (c .pre .few .1) (search needs) in
     let f : SFits w64 r = search needs in
-    let i = c .loop-l .inv in
-    ( subst (λ z. Filled (pos 0) S (replicate 9 (pos 0)) (set (c .loop-l .coefs) l z) (l + 1)) (sym (toZ-ofZ w64 r f)) (filled-more (pos 0) S (replicate 9 (pos 0)) (c .loop-l .coefs) l r (omega (arith, w)) (c .test-coefficient .ensures .value) (i .0))
-    , within-set (2 ^ 30) (c .loop-l .coefs) l _ (simp toZ-ofZ (c .test-coefficient .ensures .small)) (i .1) )
+    let i = c .loop-l .inv in (
+      subst (λ z. Filled (pos 0) S (replicate 9 (pos 0)) (set (c .loop-l .coefs) l z) (l + 1)) (sym (toZ-ofZ w64 r f)) (filled-more (pos 0) S (replicate 9 (pos 0)) (c .loop-l .coefs) l r (omega (arith, w)) (c .test-coefficient .ensures .value) (i .0)),
+      within-set (2 ^ 30) (c .loop-l .coefs) l _ (simp toZ-ofZ (c .test-coefficient .ensures .small)) (i .1),
+    )
 
 pub returns : need.returns
 returns c =
@@ -36,7 +37,7 @@ returns c =
     let S = testRow (c .args .parameters) (c .args .made) (c .args .form .now) .coefs in
     let w = test-width (c .args .parameters) (c .args .made) (c .args .form .now) (c .pre .few .0) (c .pre .few .1) (search needs) in
     let e = filled-all (pos 0) S (replicate 9 (pos 0)) (c .loop-l .coefs) (c .loop-l .l) (omega (arith, w)) (c .loop-l .inv .0) in
-    record
-    { value = λ k. record { coefs = e k; form = set (replicate 10 (pos 0)) 9 (toZ-ofZ w64 x f k); div = pos 1 }
-    ; sound = sound-one (c .loop-l .coefs) _ (c .loop-l .inv .1) (within-set (2 ^ 30) (replicate 10 (pos 0)) 9 _ (simp toZ-ofZ (c .pre .small 9)) (within-zeros (2 ^ 30) 10))
+    record {
+      value = λ k. record { coefs = e k; form = set (replicate 10 (pos 0)) 9 (toZ-ofZ w64 x f k); div = pos 1 };
+      sound = sound-one (c .loop-l .coefs) _ (c .loop-l .inv .1) (within-set (2 ^ 30) (replicate 10 (pos 0)) 9 _ (simp toZ-ofZ (c .pre .small 9)) (within-zeros (2 ^ 30) 10));
     }

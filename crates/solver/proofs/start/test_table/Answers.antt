@@ -20,20 +20,21 @@ loop-k-again c =
     let ctx = c .args .ctx .now in
     let f = testRow (ctx .parameters) (ctx .made) in
     let u = unitRows 0 (ctx .parameters + ctx .made) in
-    let q = c .push-row .ensures in
-    ( q .ready
-    , search needs
-    , search needs
-    , q .rows ∙ ap (λ l. l ++ c .test-row .result ∷ []) (i .3) ∙ append-assoc u (map f (take k (ctx .forms))) _
-      ∙ ap (λ x. u ++ (map f (take k (ctx .forms)) ++ x ∷ [])) (c .test-row .ensures .value) ∙ ap (λ l. u ++ l) (sym (map-more f (ctx .forms) k [] (search needs))) )
+    let q = c .push-row .ensures in (
+      q .ready,
+      search needs,
+      search needs,
+      q .rows ∙ ap (λ l. l ++ c .test-row .result ∷ []) (i .3) ∙ append-assoc u (map f (take k (ctx .forms))) _
+          ∙ ap (λ x. u ++ (map f (take k (ctx .forms)) ++ x ∷ [])) (c .test-row .ensures .value) ∙ ap (λ l. u ++ l) (sym (map-more f (ctx .forms) k [] (search needs))),
+    )
 
 pub returns : need.returns
 returns c =
     let i = c .loop-k .inv in
     let ctx = c .args .ctx .now in
     let e : c .loop-k .k ≡ ctx .count = omega arith in
-    record
-    { rows = i .3 ∙ ap (λ n. unitRows 0 (ctx .parameters + ctx .made) ++ map (testRow (ctx .parameters) (ctx .made)) (take n (ctx .forms))) e
-    ; ready = i .0
-    ; counts = (omega (arith, i .1), i .2)
+    record {
+      rows = i .3 ∙ ap (λ n. unitRows 0 (ctx .parameters + ctx .made) ++ map (testRow (ctx .parameters) (ctx .made)) (take n (ctx .forms))) e;
+      ready = i .0;
+      counts = (omega (arith, i .1), i .2);
     }

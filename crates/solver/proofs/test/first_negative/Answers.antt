@@ -9,9 +9,9 @@ pub returns-then-is-negative : need.returns-then-is-negative
 returns-then-is-negative c =
     let t = c .args .t .now in
     let h = c .loop-h .h in
-    record
-    { value = sym (sym (c .loop-h .inv) ∙ used-more (firstNegative h) t h (c .loop-h-test .taken) (search needs) ∙ cond-true _ _ _ (sym (c .if-is-negative .ensures tt .value)))
-    ; inside = c .loop-h-test .taken
+    record {
+      value = sym (sym (c .loop-h .inv) ∙ used-more (firstNegative h) t h (c .loop-h-test .taken) (search needs) ∙ cond-true _ _ _ (sym (c .if-is-negative .ensures tt .value)));
+      inside = c .loop-h-test .taken;
     }
 
 pub loop-h-again : need.loop-h-again

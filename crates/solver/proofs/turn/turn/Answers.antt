@@ -17,34 +17,34 @@ returns-in-Break-next c =
     let p = err-from-errBy (c .from-residual .result) (c .from-residual .ensures .1) in
     let t = c .args .t .now in
     let e = c .in-Break-next .field-0 .0 in
-    record
-    { value = λ s room. turn-left (c .args .place) (getD (t .rows) (c .args .spot .0) noRow) (c .args .spot .1) t s (c .args .fuel) room (c .args .count) e (sym (c .tick .ensures .value) ∙ c .in-Break-next .was tt) ∙ sym (ap (moved t s) (p .1 ∙ ap Err (p .2)))
-    ; constants = λ _. made-from-err _ _ (c .from-residual .ensures .0)
-    ; ready = made-from-err _ _ (c .from-residual .ensures .0)
-    ; counts = search needs
-    ; moved = made-from-err _ _ (c .from-residual .ensures .0)
+    record {
+      value = λ s room. turn-left (c .args .place) (getD (t .rows) (c .args .spot .0) noRow) (c .args .spot .1) t s (c .args .fuel) room (c .args .count) e (sym (c .tick .ensures .value) ∙ c .in-Break-next .was tt) ∙ sym (ap (moved t s) (p .1 ∙ ap Err (p .2)));
+      constants = λ _. made-from-err _ _ (c .from-residual .ensures .0);
+      ready = made-from-err _ _ (c .from-residual .ensures .0);
+      counts = search needs;
+      moved = made-from-err _ _ (c .from-residual .ensures .0);
     }
 
 pub returns-then-not-pivot : need.returns-then-not-pivot
 returns-then-not-pivot c =
     let t = c .args .t .now in
     let q = c .pivot .ensures in
-    record
-    { value = λ s room. turn-broken (c .args .place) (getD (t .rows) (c .args .spot .0) noRow) (c .args .spot .1) t s (c .args .fuel) room (c .args .count) (c .pivot .last .t) (c .pre .ready .inside) (q .counts) (q .rows) (c .in-Continue-next .next) (sym (c .in-Continue-next .ensures tt .value)) (sym (c .if-not-pivot .ensures tt .answer)) ∙ ap (λ m. Err (Range m)) (sym (c .met .ensures))
-    ; constants = λ _. tt
-    ; ready = tt
-    ; counts = q .counts
-    ; moved = tt
+    record {
+      value = λ s room. turn-broken (c .args .place) (getD (t .rows) (c .args .spot .0) noRow) (c .args .spot .1) t s (c .args .fuel) room (c .args .count) (c .pivot .last .t) (c .pre .ready .inside) (q .counts) (q .rows) (c .in-Continue-next .next) (sym (c .in-Continue-next .ensures tt .value)) (sym (c .if-not-pivot .ensures tt .answer)) ∙ ap (λ m. Err (Range m)) (sym (c .met .ensures));
+      constants = λ _. tt;
+      ready = tt;
+      counts = q .counts;
+      moved = tt;
     }
 
 pub returns : need.returns
 returns c =
     let t = c .args .t .now in
     let q = c .pivot .ensures in
-    record
-    { value = λ s room. turn-made (c .args .place) (getD (t .rows) (c .args .spot .0) noRow) (c .args .spot .1) t s (c .args .fuel) room (c .args .count) (c .pivot .last .t) (c .pre .ready .inside) (q .counts) (q .rows) (c .in-Continue-next .next) (sym (c .in-Continue-next .ensures tt .value)) (sym (c .if-not-pivot .ensures tt .answer))
-    ; constants = λ a. subst AllConst (sym (q .rows)) (const-turned t (c .args .spot .0) (c .args .spot .1) (c .pre .there .0) a)
-    ; ready = search needs
-    ; counts = q .counts
-    ; moved = c .in-Continue-next .ensures tt .moved
+    record {
+      value = λ s room. turn-made (c .args .place) (getD (t .rows) (c .args .spot .0) noRow) (c .args .spot .1) t s (c .args .fuel) room (c .args .count) (c .pivot .last .t) (c .pre .ready .inside) (q .counts) (q .rows) (c .in-Continue-next .next) (sym (c .in-Continue-next .ensures tt .value)) (sym (c .if-not-pivot .ensures tt .answer));
+      constants = λ a. subst AllConst (sym (q .rows)) (const-turned t (c .args .spot .0) (c .args .spot .1) (c .pre .there .0) a);
+      ready = search needs;
+      counts = q .counts;
+      moved = c .in-Continue-next .ensures tt .moved;
     }

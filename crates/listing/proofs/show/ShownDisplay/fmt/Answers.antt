@@ -1,5 +1,5 @@
 use mathlib.Core.List.{_++_}
-use mathlib.Core.Path.{_≡_, _∙_, sym, ap}
+use mathlib.Core.Path.{_∙_, sym, ap}
 use native.Mathlib.Omega.{arith}
 use lib.Chars.{codes}
 use Rattle.std.proofs.Writes.{put-more, put-is}
