@@ -6,11 +6,10 @@ use lib.IntN.{ℤ}
 use lib.ListN.{take}
 use Rattle.std.specs.Written.{decimal, signed}
 use Rattle.std.specs.shelf.Lists.{joined}
+use Rattle.base.specs.declared.refusal.Refusal.{Refusal}
 use Rattle.base.specs.Refusals.{reportOf}
 use Rattle.tree.specs.declared.node.Node.{Node}
 use Rattle.tree.specs.declared.node.Node.the-variants.{Head, Keep, Split, New, Leaf, None}
-use Rattle.listing.specs.declared.show.Shown.{Shown}
-use Rattle.listing.specs.declared.show.Shown.the-variants.{Tree, Refused}
 
 abbrev pub spaced : ℤ → List ℕ
 spaced x = codes " " ++ signed x
@@ -44,6 +43,9 @@ abbrev pub unknownsOf : List Node → ℕ
 unknownsOf [] = 0
 unknownsOf (node ∷ nodes) = unknownsIn node
 
-abbrev pub shownText : Shown → List ℕ
-shownText (Tree nodes steps) = joined (nodeText (unknownsOf (nodes .now))) (nodes .now) ++ (codes "steps " ++ (decimal steps ++ codes "\n"))
-shownText (Refused refusal) = codes "refused " ++ (decimal (reportOf refusal .number) ++ codes "\n")
+-- a tree: its nodes, then the steps
+abbrev pub treeText : List Node → ℕ → List ℕ
+treeText nodes steps = joined (nodeText (unknownsOf nodes)) nodes ++ (codes "steps " ++ (decimal steps ++ codes "\n"))
+
+abbrev pub refusalText : Refusal → List ℕ
+refusalText refusal = codes "refused " ++ (decimal (reportOf refusal .number) ++ codes "\n")

@@ -3,18 +3,22 @@ ghost use mathlib.Core.Path.{_≡_};
 ghost use lib.ListN.{take};
 ghost use Rattle.std.specs.shelf.Lists.{joined};
 ghost use Rattle.std.specs.declared.option.Option.the-variants.{Some};
-ghost use Rattle.listing.specs.Texts.{line, nodeText, point, shownText, unknownsOf};
+ghost use Rattle.listing.specs.Texts.{line, nodeText, point, refusalText, treeText, unknownsOf};
 use base::refusal::Refusal;
 use std::fmt;
 use tree::node::Node;
 use tree::node::NodeForm;
 
-/// What a solve of a listing came to: the nodes of its tree and the steps made, or a refusal.
+/// A tree as text: a line for each node, and the steps made.
 #[derive(Drop)]
-pub enum Shown<'a> {
-    Tree { nodes: &'a [Node], steps: u32 },
-    Refused(Refusal),
+pub struct TreeText<'a> {
+    pub nodes: &'a [Node],
+    pub steps: u32,
 }
+
+/// A refusal as text: its number.
+#[derive(Clone, Copy)]
+pub struct RefusalText(pub Refusal);
 
 /// The numbers of a form, a space before each, and the end of the line.
 #[derive(Drop)]
@@ -89,19 +93,23 @@ fn unknowns_of(nodes: &[Node]) -> u8
     }
 }
 
-pub impl fmt::Display for Shown<'_> as ShownDisplay {
-    ghost shown = { λ x. Some (shownText x) };
+pub impl fmt::Display for TreeText<'_> as TreeTextDisplay {
+    ghost shown = { λ x. Some (treeText (x .nodes .now) (x .steps)) };
 
     fn fmt<W: fmt::Write>(&self, f: &mut fmt::Formatter<W>) -> fmt::Result {
-        match self {
-            Shown::Tree { nodes, steps } => {
-                let unknowns = unknowns_of(nodes);
-                for node in nodes.iter() {
-                    write!(f, "{}", Lines { node, unknowns })?;
-                }
-                writeln!(f, "steps {steps}")
-            }
-            Shown::Refused(refusal) => writeln!(f, "refused {}", refusal.number()),
+        let unknowns = unknowns_of(self.nodes);
+        for node in self.nodes.iter() {
+            write!(f, "{}", Lines { node, unknowns })?;
         }
+        let steps = self.steps;
+        writeln!(f, "steps {steps}")
+    }
+}
+
+pub impl fmt::Display for RefusalText as RefusalTextDisplay {
+    ghost shown = { λ x. Some (refusalText (x .0)) };
+
+    fn fmt<W: fmt::Write>(&self, f: &mut fmt::Formatter<W>) -> fmt::Result {
+        writeln!(f, "refused {}", self.0.number())
     }
 }

@@ -1,7 +1,9 @@
 //! A listing solved, and its answer as text.
 use crate::read::read;
-use crate::show::Shown;
-use crate::show::ShownDisplay;
+use crate::show::RefusalText;
+use crate::show::RefusalTextDisplay;
+use crate::show::TreeText;
+use crate::show::TreeTextDisplay;
 use base::refusal::Refusal;
 use solver::run::Solved;
 use solver::run::solve_into;
@@ -19,22 +21,14 @@ pub fn solve_text(text: &[u8], work: &mut [Node]) -> Result<Solved, Refusal> {
     solve_into(&listing.source, work, listing.fuel)
 }
 
-/// The text of a tree.
-fn tree_text(heap: Global, nodes: &[Node], steps: u32) -> Result<String, AllocError> {
-    let shown = Shown::Tree { nodes, steps };
-    shown.to_string(heap)
-}
-
-/// The text of a refusal.
-fn refusal_text(heap: Global, refusal: Refusal) -> Result<String, AllocError> {
-    format!(heap, "{}", Shown::Refused(refusal))
-}
-
 /// What is printed for a listing: its solution tree and the steps, or by which number it is refused.
 pub fn answer_text(heap: Global, text: &[u8]) -> Result<String, AllocError> {
     let mut work = [Node::None; WORK];
     match solve_text(text, &mut work) {
-        Ok(solved) => tree_text(heap, &work[0..solved.nodes.min(WORK)], solved.steps),
-        Err(refusal) => refusal_text(heap, refusal),
+        Ok(solved) => TreeText {
+            nodes: &work[0..solved.nodes.min(WORK)],
+            steps: solved.steps,
+        }.to_string(heap),
+        Err(refusal) => RefusalText(refusal).to_string(heap),
     }
 }

@@ -1,8 +1,10 @@
 //! Listings by example.
 use crate::read::LONGEST;
 use crate::read::read;
-use crate::show::Shown;
-use crate::show::ShownDisplay;
+use crate::show::RefusalText;
+use crate::show::RefusalTextDisplay;
+use crate::show::TreeText;
+use crate::show::TreeTextDisplay;
 use base::refusal::Refusal;
 use base::refusal::RefusalDebug;
 use base::refusal::RefusalPartialEq;
@@ -97,7 +99,7 @@ fn a_tree_is_shown(rt: LibcRuntime) -> Result<(), Fail> {
         },
         Node::Leaf([half, zero, zero, zero, zero, zero]),
     ];
-    let shown = Shown::Tree {
+    let shown = TreeText {
         nodes: &nodes,
         steps: 12,
     };
@@ -120,7 +122,7 @@ fn no_point_is_shown(rt: LibcRuntime) -> Result<(), Fail> {
         Node::Keep([0, 0, 0, 0, 0, 0, 0, 0, 0, -2147483648]),
         Node::None,
     ];
-    let none = Shown::Tree {
+    let none = TreeText {
         nodes: &nodes,
         steps: 0,
     };
@@ -134,6 +136,6 @@ steps 0
 
 #[test]
 fn a_refusal_is_shown(rt: LibcRuntime) -> Result<(), Fail> {
-    let text = format!(rt.alloc(), "{}", Shown::Refused(Refusal::Counts))?;
+    let text = format!(rt.alloc(), "{}", RefusalText(Refusal::Counts))?;
     check_eq(text.as_str(), "refused 11\n")
 }
