@@ -1,0 +1,10 @@
+pub mod Integers
+pub mod Ring
+pub mod Claims
+pub mod Orders
+pub mod Dots
+pub mod Division
+pub mod Naturals
+pub mod Lex
+pub mod Columns
+pub mod Precedes
