@@ -42,6 +42,9 @@ pub scaled-map : (g : ℤ) (xs : List ℤ) → scaled g xs ≡ map (λ x. g *ℤ
 scaled-map g [] = refl
 scaled-map g (x ∷ xs) = ap (λ (t : List ℤ). (g *ℤ x) ∷ t) (scaled-map g xs)
 
+pub times-dot : (g : ℤ) (xs ys : List ℤ) → dot (map (λ x. g *ℤ x) xs) ys ≡ g *ℤ dot xs ys
+times-dot g xs ys = ap (λ (t : List ℤ). dot t ys) (sym (scaled-map g xs)) ∙ scaled-dot g xs ys
+
 -- ---- sums
 pub dot-plus : (xs ys zs : List ℤ) → length xs ≡ length ys → dot (plus xs ys) zs ≡ dot xs zs +ℤ dot ys zs
 dot-plus [] [] zs h = refl
@@ -58,6 +61,11 @@ pub dot-negs : (xs ys : List ℤ) → dot (map negℤ xs) ys ≡ negℤ (dot xs 
 dot-negs [] ys = refl
 dot-negs (x ∷ xs) [] = refl
 dot-negs (x ∷ xs) (y ∷ ys) = rw (dot-negs xs ys) (ring 3 (λ x y r. ((⊝ x) ⊗ y ⊕ ⊝ r, ⊝ (x ⊗ y ⊕ r))) refl x y (dot xs ys))
+
+pub at-negs : (xs : List ℤ) (k : ℕ) → at (map negℤ xs) k ≡ negℤ (at xs k)
+at-negs [] k = refl
+at-negs (x ∷ xs) zero = refl
+at-negs (x ∷ xs) (suc k) = at-negs xs k
 
 -- ---- a change at one place
 pub dot-set : (xs ys : List ℤ) (j : ℕ) (v : ℤ) → j < length ys → dot xs (set ys j v) ≡ dot xs ys +ℤ at xs j *ℤ (v -ℤ at ys j)
