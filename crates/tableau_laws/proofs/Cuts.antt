@@ -22,10 +22,11 @@ use Rattle.algebra.specs.Lists.{NonNeg}
 use Rattle.algebra.proofs.Ring.{_⊕_, _⊖_, _⊗_, num, ring, ⊝_}
 use Rattle.algebra.proofs.Claims.{given, goal, ring-from}
 use Rattle.algebra.proofs.Dots.{at-negs, dot-negs}
-use Rattle.algebra.proofs.Division.{Divided, divided, dot-divided, mods-nonneg, natural-multiple}
-use Rattle.algebra.proofs.Naturals.{dot-nonneg}
+use Rattle.algebra.proofs.Division.{Divided, divided, dot-divided, floor-nonneg, mods-nonneg, natural-multiple}
+use Rattle.algebra.proofs.Naturals.{dot-nonneg, nonneg-append, nonneg-set}
 use Rattle.tableau_laws.specs.Lines.{Line, Says, under}
 use Rattle.tableau_laws.specs.Settings.{gained, newValue}
+use Rattle.tableau_laws.specs.Laws.{New-holds, New-natural}
 use Rattle.tableau_laws.proofs.Lowest.{lowest-says}
 use Rattle.tableau_laws.proofs.Settings.{value-constant, value-none, value-used}
 
@@ -125,3 +126,13 @@ module _ (ρ : List ℤ) (r : Row) (q : ℕ) (form : length (r .form) ≡ 10) (n
 
       high : (T dq m d c : ℤ) → T ≡ dq +ℤ m → m <ℤ d → pos 0 ≤ℤ (negℤ T +ℤ dq +ℤ ((negℤ c +ℤ (d -ℤ pos 1)) -ℤ negℤ c))
       high T dq m d c e h = omega (arith, ints)
+
+pub new-holds : New-holds
+new-holds ρ r q form n lt above free = (lower-holds ρ r q form n lt above free, upper-holds ρ r q form n lt above free)
+
+-- a natural setting stays natural: T has no number below 0
+pub new-natural : New-natural
+new-natural ρ r q above nn =
+    let T = cutOf r .form in
+    let one : NonNeg (ρ ++ (pos 1 ∷ [])) = nonneg-append ρ (pos 1 ∷ []) nn (omega (arith, ints), tt) in
+    nonneg-set ρ q (newValue (cutOf r) ρ) nn (floor-nonneg (valueAt T ρ) (r .div) (dot-nonneg T (ρ ++ (pos 1 ∷ [])) (mods-nonneg (r .div) (map negℤ (r .form)) above) one))

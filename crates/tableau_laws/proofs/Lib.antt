@@ -6,3 +6,5 @@ pub mod Pivots
 pub mod Settings
 pub mod Cuts
 pub mod CutKeeps
+pub mod Ends
+pub mod Leaves

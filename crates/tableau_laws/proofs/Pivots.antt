@@ -24,6 +24,7 @@ use Rattle.algebra.proofs.Dots.{dot-scaled, length-scaled}
 use Rattle.algebra.proofs.Naturals.{nonneg-set}
 use Rattle.tableau_laws.specs.Lines.{Above, AllSay, AllSayAt, In, Line, Says, SaysAt, Shaped, coefsOf, under}
 use Rattle.tableau_laws.specs.Facts.{Facts, Linked, Point, Reached, Right}
+use Rattle.tableau_laws.specs.Laws.{Pivot-keeps}
 use Rattle.tableau_laws.proofs.Lowest.{lowest-at, lowest-div, lowest-says, raised-at}
 use Rattle.tableau_laws.proofs.Rows.{above-of, in-either, of-either, shape-of, shaped-pivoted, value-of}
 use Rattle.tableau_laws.proofs.Turns.{back, turned-back, turned-forth, turned-says}
@@ -85,7 +86,7 @@ shape-in n sys ρ top rest i t m = of-either Shaped _ i top rest (shape-of i) m 
 pub div-in : (n : ℕ) (sys : List Line) (ρ : List ℤ) (top rest : List Row) (i : Row) → Right n sys ρ top rest → In i (top ++ rest) → pos 0 <ℤ i .div
 div-in n sys ρ top rest i t m = of-either (λ (rs : List Row). Above (map (under ρ) rs)) _ i top rest (above-of ρ i) m (t .facts .div .0) (t .facts .div .1)
 
-pub pivot-keeps : (n : ℕ) (sys : List Line) (ρ : List ℤ) (top rest : List Row) (i : Row) (j : ℕ) → Right n sys ρ top rest → In i (top ++ rest) → entering top i ≡ Some j → Right n sys ρ (map (pivoted i j) top) (map (pivoted i j) rest)
+pub pivot-keeps : Pivot-keeps
 pivot-keeps n sys ρ top rest i j t m e = record {
   facts = record { reach = reach; link = link; lex = lex; div = (pivoted-above ρ i j lt wide form above top (f .div .0), pivoted-above ρ i j lt wide form above rest (f .div .1)); size = size };
   top-shaped = shaped-pivoted i j top wide form (t .top-shaped);

@@ -55,7 +55,7 @@ lines-unused ρ q v [] u h = refl
 lines-unused ρ q v (r ∷ rs) u h = λ k. record { coefs = r .coefs; constant = value-unused (r .form) ρ q v (u .0) h k; div = r .div } ∷ lines-unused ρ q v rs (u .1) h k
 
 -- ---- a form that names no parameter
-is-zero : (z : ℤ) → isZero z ≡ true → z ≡ pos 0
+pub is-zero : (z : ℤ) → isZero z ≡ true → z ≡ pos 0
 is-zero (pos zero) e = refl
 is-zero (pos (suc n)) e = cc
 is-zero (negsuc n) e = cc

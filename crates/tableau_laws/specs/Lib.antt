@@ -1,3 +1,5 @@
 pub mod Lines
 pub mod Facts
 pub mod Settings
+pub mod Ends
+pub mod Laws
