@@ -1,10 +1,10 @@
 -- Equations of ℤ from hypotheses, each with its factor, by one ring equation that computes.
-use mathlib.Core.Path.{_≡_, refl, sym, ap, _∙_, subst}
-use mathlib.Core.List.{List, [], _∷_}
-use Prim.Native.Nat.{ℕ, zero, suc, _+_}
+use mathlib.Core.Path.{_≡_, sym, ap, _∙_}
+use mathlib.Core.List.{List, []}
+use Prim.Native.Nat.{ℕ, zero, suc}
 use native.Mathlib.Omega.{arith}
-use borrow.Author.Differences.{ints, up, down}
-use lib.IntN.{ℤ, pos, negsuc, _+ℤ_, _-ℤ_, _*ℤ_, negℤ, *ℤ-zero}
+use borrow.Author.Differences.{ints}
+use lib.IntN.{ℤ, pos, _-ℤ_, _*ℤ_, *ℤ-zero}
 use Rattle.algebra.proofs.Ring.{Expr, _⊖_, _⊗_, eval, evalP, nil, norm, norm-is, snoc, var}
 
 -- `goal l r` is l ≡ r, `given f p q k` is p ≡ q → k. The proof: l - r is the sum of f·(p - q)

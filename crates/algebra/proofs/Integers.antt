@@ -1,9 +1,9 @@
 -- Ring and order laws of ℤ.
-use mathlib.Core.Path.{_≡_, refl, sym, ap, _∙_, subst}
-use Prim.Native.Nat.{ℕ, zero, suc, _+_, _*_, _<_, _≤_}
+use mathlib.Core.Path.{_≡_, refl, sym, ap, _∙_}
+use Prim.Native.Nat.{_+_, _*_, _<_, _≤_}
 use native.Mathlib.Omega.{arith}
 use native.Mathlib.Nat.{eq-of-mul-eq-mul-left, mul-le-mul-left, le-of-mul-le-mul-left, mul-lt-mul-of-pos-left, lt-of-mul-lt-mul-left}
-use lib.IntN.{ℤ, pos, negsuc, _+ℤ_, _-ℤ_, _*ℤ_, negℤ, *ℤ-comm, negℤ-+ℤ, negℤ-negℤ, +ℤ-assoc, +ℤ-comm}
+use lib.IntN.{ℤ, pos, negsuc, _+ℤ_, _*ℤ_, negℤ, *ℤ-comm, negℤ-+ℤ, negℤ-negℤ, +ℤ-assoc, +ℤ-comm}
 use lib.Signed.{_≤ℤ_, _<ℤ_}
 use borrow.Author.Differences.{ints, up, down, same-in, product-is, sum-is, neg-is}
 

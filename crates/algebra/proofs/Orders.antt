@@ -1,10 +1,10 @@
 -- Orders of ℤ from hypotheses, each with its factor, by one ring equation that computes.
-use mathlib.Core.Path.{_≡_, refl, sym, ap, _∙_}
-use mathlib.Core.List.{List, [], _∷_}
+use mathlib.Core.Path.{_≡_, sym, ap, _∙_}
+use mathlib.Core.List.{List, []}
 use Prim.Native.Nat.{ℕ, zero, suc}
 use native.Mathlib.Omega.{arith}
 use borrow.Author.Differences.{ints}
-use lib.IntN.{ℤ, pos, negsuc, _+ℤ_, _-ℤ_, _*ℤ_, *ℤ-zero}
+use lib.IntN.{ℤ, pos, _-ℤ_, _*ℤ_, *ℤ-zero}
 use lib.Signed.{_≤ℤ_}
 use Rattle.algebra.proofs.Integers.{nonneg-mul}
 use Rattle.algebra.proofs.Ring.{Expr, Poly, _⊖_, _⊗_, eval, evalP, nil, norm, norm-is, num, snoc, term, unit, var}

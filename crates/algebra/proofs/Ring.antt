@@ -1,15 +1,15 @@
 -- Equations of the commutative ring ℤ, by a normal form that computes: `ring 2 (λ a b. (a ⊕ b, b ⊕ a)) refl` proves a + b = b + a.
-use mathlib.Core.Path.{_≡_, refl, sym, ap, _∙_, subst}
+use mathlib.Core.Path.{_≡_, refl, sym, ap, _∙_}
 use mathlib.Core.Bool.{Bool, true, false, cond}
 use mathlib.Core.List.{List, [], _∷_}
-use Prim.Native.Nat.{ℕ, zero, suc, _+_, compare, Ordering, Ordering·lt, Ordering·eq, Ordering·gt}
+use Prim.Native.Nat.{ℕ, zero, suc, compare, Ordering, Ordering·lt, Ordering·eq, Ordering·gt}
 use native.Mathlib.Omega.{arith}
 use lib.Dec.{eqb, ltb}
 use borrow.Author.Tests.{eqb-true}
-use borrow.Author.Differences.{ints, up, down}
-use lib.IntN.{ℤ, pos, negsuc, _+ℤ_, _-ℤ_, _*ℤ_, negℤ, *ℤ-comm, zero-*ℤ, *ℤ-zero, +ℤ-idl, +ℤ-idr, +ℤ-assoc}
+use borrow.Author.Differences.{ints}
+use lib.IntN.{ℤ, pos, negsuc, _+ℤ_, _-ℤ_, _*ℤ_, negℤ, zero-*ℤ, *ℤ-zero, +ℤ-idl, +ℤ-idr, +ℤ-assoc}
 use Rattle.base.specs.Numbers.{at}
-use Rattle.algebra.proofs.Integers.{ring-sort, one-l, *ℤ-assoc, dist-l, dist-r, neg-l, mul-left-comm, add-left-comm}
+use Rattle.algebra.proofs.Integers.{ring-sort, one-l, *ℤ-assoc, dist-r}
 
 infixr 8 _·_
 infix 9 ⊝_

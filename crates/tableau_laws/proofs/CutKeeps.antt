@@ -1,14 +1,14 @@
 -- A cut keeps the four facts.
-use mathlib.Core.Path.{_≡_, refl, sym, ap, subst, _∙_}
+use mathlib.Core.Path.{_≡_, sym, ap, subst, _∙_}
 use mathlib.Core.Bool.{true}
 use mathlib.Core.Logic.{inl, inr}
 use mathlib.Core.List.{List, [], _∷_, _++_, map}
-use Prim.Native.Nat.{ℕ, suc, _<_}
+use Prim.Native.Nat.{ℕ, _<_}
 use native.Mathlib.Omega.{arith}
 use borrow.Author.Differences.{ints}
-use lib.ListN.{length, set, length-set}
+use lib.ListN.{length, length-set}
 use lib.IntN.{ℤ, pos}
-use lib.Signed.{_≤ℤ_, _<ℤ_}
+use lib.Signed.{_<ℤ_}
 use Rattle.std.specs.declared.option.Option.{Option}
 use Rattle.std.specs.declared.option.Option.the-variants.{None, Some}
 use Rattle.std.proofs.shelf.Lists.{length-map, map-append}
@@ -16,9 +16,8 @@ use Rattle.base.specs.Numbers.{at, modBy}
 use Rattle.tableau.specs.declared.table.Row.{Row}
 use Rattle.tableau.specs.declared.cut.Cut.{Cut}
 use Rattle.tableau.specs.Cuts.{cutForm, cutOf, cutRow, isConstant}
-use Rattle.algebra.specs.Lists.{NonNeg}
 use Rattle.algebra.proofs.Naturals.{nonneg-append}
-use Rattle.tableau_laws.specs.Lines.{Above, AllSay, In, Line, Says, Shaped, Unused, under}
+use Rattle.tableau_laws.specs.Lines.{Above, AllSay, In, Line, Says, Unused, under}
 use Rattle.tableau_laws.specs.Facts.{Facts, Linked, Point, Reached, Right}
 use Rattle.tableau_laws.specs.Settings.{gained, newValue}
 use Rattle.tableau_laws.proofs.Lowest.{lowest-div}

@@ -1,22 +1,20 @@
 -- A cut row has a natural value wherever its row has a whole one, and the context rows of its new parameter hold.
-use mathlib.Core.Path.{_≡_, refl, sym, ap, subst, _∙_}
+use mathlib.Core.Path.{_≡_, refl, sym, ap, _∙_}
 use mathlib.Core.Bool.{true}
 use mathlib.Core.List.{List, [], _∷_, _++_, map}
 use Prim.Native.Nat.{ℕ, zero, suc, _<_}
 use native.Mathlib.Omega.{arith}
 use native.Mathlib.Nat.{zero-mod}
 use borrow.Author.Differences.{ints}
-use lib.ListN.{length, getD, set, take, length-set}
+use lib.ListN.{length, take, length-set}
 use lib.Seq.{getD-set-other}
 use lib.IntN.{ℤ, pos, negsuc, natAbs, negℤ, _+ℤ_, _-ℤ_, _*ℤ_}
 use lib.Signed.{_≤ℤ_, _<ℤ_}
-use Rattle.std.specs.declared.option.Option.{Option}
 use Rattle.std.specs.declared.option.Option.the-variants.{None, Some}
 use Rattle.std.proofs.shelf.Lists.{length-map}
-use Rattle.base.specs.Numbers.{at, floorBy, floorDiv, modBy, modulo}
+use Rattle.base.specs.Numbers.{at, floorBy, modBy, modulo}
 use Rattle.base.specs.Forms.{dot, valueAt}
 use Rattle.tableau.specs.declared.table.Row.{Row}
-use Rattle.tableau.specs.declared.cut.Cut.{Cut}
 use Rattle.tableau.specs.Cuts.{cutForm, cutOf, cutRow, isConstant, lower, noneOf, upper}
 use Rattle.algebra.specs.Lists.{NonNeg}
 use Rattle.algebra.proofs.Ring.{_⊕_, _⊖_, _⊗_, num, ring, ⊝_}
@@ -24,7 +22,7 @@ use Rattle.algebra.proofs.Claims.{given, goal, ring-from}
 use Rattle.algebra.proofs.Dots.{at-negs, dot-negs}
 use Rattle.algebra.proofs.Division.{Divided, divided, dot-divided, floor-nonneg, mods-nonneg, natural-multiple}
 use Rattle.algebra.proofs.Naturals.{dot-nonneg, nonneg-append, nonneg-set}
-use Rattle.tableau_laws.specs.Lines.{Line, Says, under}
+use Rattle.tableau_laws.specs.Lines.{Says, under}
 use Rattle.tableau_laws.specs.Settings.{gained, newValue}
 use Rattle.tableau_laws.specs.Laws.{New-holds, New-natural}
 use Rattle.tableau_laws.proofs.Lowest.{lowest-says}

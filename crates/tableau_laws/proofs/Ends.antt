@@ -1,15 +1,15 @@
 -- What the ends of the work say: no point, or the least one.
-use mathlib.Core.Path.{_≡_, refl, sym, ap, subst, _∙_}
+use mathlib.Core.Path.{_≡_, refl, sym, ap, _∙_}
 use mathlib.Core.Logic.{inl, inr}
-use mathlib.Core.List.{List, [], _∷_, _++_, map}
-use Prim.Native.Nat.{ℕ, zero, suc, _<_}
+use mathlib.Core.List.{List, [], _∷_}
+use Prim.Native.Nat.{ℕ, suc}
 use native.Mathlib.Omega.{arith}
 use borrow.Author.Differences.{ints}
 use lib.ListN.{length}
-use lib.IntN.{ℤ, pos, negsuc, _+ℤ_, _-ℤ_, _*ℤ_, +ℤ-idl}
+use lib.IntN.{ℤ, pos, _+ℤ_, _*ℤ_, +ℤ-idl}
 use lib.Signed.{_≤ℤ_, _<ℤ_}
 use Rattle.base.specs.Forms.{dot}
-use Rattle.algebra.specs.Lists.{NonNeg, NonPos, column, products, zeros}
+use Rattle.algebra.specs.Lists.{NonNeg, NonPos, products, zeros}
 use Rattle.algebra.specs.Orders.{LexLe, LexNN}
 use Rattle.algebra.proofs.Integers.{cancel-l, le-mul-cancel, lt-mul-cancel, nonneg-mul}
 use Rattle.algebra.proofs.Ring.{_⊕_, _⊗_, num, ring}
@@ -17,8 +17,8 @@ use Rattle.algebra.proofs.Claims.{given, goal, ring-from}
 use Rattle.algebra.proofs.Dots.{dot-zeros, length-zeros}
 use Rattle.algebra.proofs.Naturals.{dot-nonpos}
 use Rattle.algebra.proofs.Columns.{columns-combine}
-use Rattle.tableau_laws.specs.Lines.{Above, AllSay, AllSayAt, Line, Says, SaysAt, coefsOf}
-use Rattle.tableau_laws.specs.Facts.{Facts, Linked, Point, Reached, Satisfied}
+use Rattle.tableau_laws.specs.Lines.{Above, AllSay, AllSayAt, Line, Says, coefsOf}
+use Rattle.tableau_laws.specs.Facts.{Facts, Linked, Point, Satisfied}
 
 -- ---- none: a line below 0 with no number above 0 has no natural value at a natural point
 pub none-says : (h : Line) (y : List ℤ) (v : ℤ) → pos 0 <ℤ h .div → NonPos (h .coefs) → h .constant <ℤ pos 0 → NonNeg y → pos 0 ≤ℤ v → Says h y v → ⊥

@@ -1,22 +1,19 @@
 -- The ends of the work, by the rows of the table.
 use mathlib.Core.Path.{_≡_, refl, sym, ap, subst, _∙_}
-use mathlib.Core.Logic.{inl, inr}
-use mathlib.Core.Bool.{Bool, true, false, cond, _&&_}
+use mathlib.Core.Bool.{Bool, true, false, cond}
 use mathlib.Core.List.{List, [], _∷_, _++_, map}
-use Prim.Native.Nat.{ℕ, zero, suc, _+_, _<_}
+use Prim.Native.Nat.{ℕ, _+_, _<_}
 use native.Mathlib.Omega.{arith}
 use borrow.Author.Differences.{ints}
-use lib.ListN.{length}
-use lib.IntN.{ℤ, pos, negsuc, natAbs, _+ℤ_, _*ℤ_}
-use lib.Signed.{_≤ℤ_, _<ℤ_}
-use Rattle.std.specs.declared.option.Option.{Option}
+use lib.IntN.{ℤ, pos, negsuc, _+ℤ_, _*ℤ_}
+use lib.Signed.{_<ℤ_}
 use Rattle.std.specs.declared.option.Option.the-variants.{None, Some}
 use Rattle.std.proofs.shelf.Tests.{and-parts}
-use Rattle.base.specs.Numbers.{Divides, DividesAll, at, floorDiv, modBy, quotBy}
+use Rattle.base.specs.Numbers.{DividesAll, floorDiv, modBy, quotBy}
 use Rattle.base.specs.Forms.{dot, valueAt}
 use Rattle.base.proofs.Divisors.{quots-times}
 use Rattle.tableau.specs.declared.table.Row.{Row}
-use Rattle.tableau.specs.Columns.{Enters, entering}
+use Rattle.tableau.specs.Columns.{Enters}
 use Rattle.tableau.specs.Cuts.{firstFraction, isZero, whole, wholeBy}
 use Rattle.tableau.proofs.Entering.{enters}
 use Rattle.algebra.specs.Lists.{NonNeg}
@@ -25,9 +22,8 @@ use Rattle.algebra.proofs.Ring.{_⊗_, num, ring}
 use Rattle.algebra.proofs.Division.{divided}
 use Rattle.algebra.proofs.Dots.{times-dot}
 use Rattle.algebra.proofs.Naturals.{nonpos-at}
-use Rattle.tableau_laws.specs.Lines.{Above, In, Line, under}
-use Rattle.tableau_laws.specs.Facts.{Point, Right}
-use Rattle.tableau_laws.specs.Ends.{Least, NoPoint, NonNegAt, leafForms, valuesAt}
+use Rattle.tableau_laws.specs.Lines.{Above, under}
+use Rattle.tableau_laws.specs.Ends.{NonNegAt, leafForms, valuesAt}
 use Rattle.tableau_laws.specs.Laws.{Leaf-right, None-right}
 use Rattle.tableau_laws.proofs.Settings.{is-zero}
 use Rattle.tableau_laws.proofs.Pivots.{div-in, reached-value, shape-in}

@@ -1,5 +1,5 @@
 -- Columns after a pivot stay lexicographically nonnegative.
-use mathlib.Core.Path.{_≡_, refl, sym, ap, subst, _∙_}
+use mathlib.Core.Path.{_≡_, refl, sym, ap, _∙_}
 use mathlib.Core.Logic.{_⊎_, inl, inr}
 use mathlib.Core.Bool.{true, false}
 use mathlib.Core.List.{List, [], _∷_, map}
@@ -7,15 +7,14 @@ use Prim.Native.Nat.{ℕ, zero, suc, _<_}
 use native.Mathlib.Omega.{arith}
 use native.Mathlib.Decide.{ℕ-discrete}
 use borrow.Author.Differences.{ints}
-use lib.ListN.{length, getD, set}
+use lib.ListN.{length}
 use lib.Seq.{getD-set-same, getD-set-other}
 use lib.IntN.{ℤ, pos, negsuc, negℤ, _+ℤ_, _-ℤ_, _*ℤ_, *ℤ-zero}
 use lib.Signed.{_≤ℤ_, _<ℤ_}
-use Rattle.std.specs.declared.option.Option.the-variants.{Some}
 use Rattle.std.proofs.shelf.Tests.{both-ways}
 use Rattle.base.specs.Numbers.{at}
 use Rattle.tableau.specs.declared.table.Row.{Row}
-use Rattle.tableau.specs.Rows.{combined, gcdOf, lowest, pivoted, times, turned}
+use Rattle.tableau.specs.Rows.{combined, gcdOf, lowest, pivoted, turned}
 use Rattle.tableau.specs.Columns.{Beats, Ties, beats}
 use Rattle.tableau.proofs.Combined.{length-combined}
 use Rattle.tableau.proofs.Entering.{Ahead, which}
@@ -24,7 +23,7 @@ use Rattle.base.proofs.Products.{mul-above}
 use Rattle.algebra.specs.Lists.{column, plus, scaled}
 use Rattle.algebra.specs.Orders.{LexNN}
 use Rattle.algebra.proofs.Integers.{cancel-l, lt-mul-cancel}
-use Rattle.algebra.proofs.Ring.{_⊕_, _⊖_, _⊗_, num, ring, ⊝_}
+use Rattle.algebra.proofs.Ring.{_⊕_, _⊖_, _⊗_, ring, ⊝_}
 use Rattle.algebra.proofs.Dots.{at-scaled, scaled-map}
 use Rattle.algebra.proofs.Lex.{lex-above, lex-plus, lex-scaled}
 use Rattle.tableau_laws.specs.Lines.{Above, Shaped, coefsOf, under}

@@ -1,18 +1,17 @@
 -- Lowest terms keep what a row says.
 use mathlib.Core.Path.{_≡_, refl, sym, ap, subst, _∙_}
-use mathlib.Core.List.{List, [], _∷_, _++_, map}
-use Prim.Native.Nat.{ℕ, _<_}
+use mathlib.Core.List.{List, [], _∷_, _++_}
 use native.Mathlib.Omega.{arith}
 use borrow.Author.Differences.{ints}
-use lib.IntN.{ℤ, pos, negsuc, _+ℤ_, _*ℤ_}
-use lib.Signed.{_≤ℤ_, _<ℤ_}
+use lib.IntN.{ℤ, pos, _+ℤ_, _*ℤ_}
+use lib.Signed.{_<ℤ_}
 use Rattle.base.specs.Numbers.{at}
 use Rattle.base.specs.Forms.{dot, valueAt}
 use Rattle.tableau.specs.declared.table.Row.{Row}
 use Rattle.tableau.specs.Rows.{gcdOf, lowest, times}
 use Rattle.tableau.proofs.Lowest.{gcdOf-bounds, lowest-above, lowest-times}
 use Rattle.algebra.proofs.Integers.{cancel-l, one-l}
-use Rattle.algebra.proofs.Ring.{_⊕_, _⊗_, num, ring}
+use Rattle.algebra.proofs.Ring.{_⊕_, _⊗_, num}
 use Rattle.algebra.proofs.Claims.{given, goal, ring-from}
 use Rattle.algebra.proofs.Dots.{times-dot}
 use Rattle.tableau_laws.specs.Lines.{Line, Says, SaysAt, under}

@@ -1,13 +1,12 @@
 -- A pivot keeps the four facts.
-use mathlib.Core.Path.{_≡_, refl, sym, ap, subst, _∙_}
+use mathlib.Core.Path.{_≡_, refl, sym, subst, _∙_}
 use mathlib.Core.List.{List, [], _∷_, _++_, map}
 use mathlib.Core.Logic.{inl, inr}
-use Prim.Native.Nat.{ℕ, suc, _<_}
+use Prim.Native.Nat.{ℕ, _<_}
 use native.Mathlib.Omega.{arith}
 use lib.ListN.{length, set, length-set}
 use lib.IntN.{ℤ, pos, _+ℤ_, _*ℤ_}
 use lib.Signed.{_≤ℤ_, _<ℤ_}
-use Rattle.std.specs.declared.option.Option.{Option}
 use Rattle.std.specs.declared.option.Option.the-variants.{Some}
 use Rattle.std.proofs.shelf.Lists.{length-map}
 use Rattle.base.specs.Numbers.{at}
@@ -15,7 +14,7 @@ use Rattle.base.specs.Forms.{dot}
 use Rattle.base.proofs.Products.{mul-above}
 use Rattle.tableau.specs.declared.table.Row.{Row}
 use Rattle.tableau.specs.Rows.{pivoted, turned}
-use Rattle.tableau.specs.Columns.{Enters, entering}
+use Rattle.tableau.specs.Columns.{Enters}
 use Rattle.tableau.proofs.Entering.{enters}
 use Rattle.algebra.specs.Lists.{column, scaled}
 use Rattle.algebra.specs.Orders.{LexNN}

@@ -1,10 +1,10 @@
 -- Rows of a table: which they are, their shape, and their lines.
-use mathlib.Core.Path.{_≡_, refl, sym, ap, subst, _∙_}
+use mathlib.Core.Path.{_≡_, refl, sym, subst, _∙_}
 use mathlib.Core.Logic.{_⊎_, inl, inr}
 use mathlib.Core.List.{List, [], _∷_, _++_, map}
 use Prim.Native.Nat.{ℕ, zero, suc, _<_}
 use native.Mathlib.Omega.{arith}
-use lib.ListN.{length, getD, set}
+use lib.ListN.{length, getD}
 use lib.IntN.{ℤ, pos}
 use lib.Signed.{_≤ℤ_, _<ℤ_}
 use Rattle.std.proofs.shelf.Lists.{length-map, length-set}
@@ -13,7 +13,7 @@ use Rattle.tableau.specs.declared.table.Row.{Row}
 use Rattle.tableau.specs.Rows.{lowest, pivoted, turned}
 use Rattle.tableau.proofs.Combined.{length-combined}
 use Rattle.algebra.specs.Lists.{NonNeg}
-use Rattle.tableau_laws.specs.Lines.{Above, AllSay, In, Line, Says, Shaped, under}
+use Rattle.tableau_laws.specs.Lines.{Above, AllSay, In, Says, Shaped, under}
 
 -- ---- membership
 pub in-at : (rs : List Row) (k : ℕ) (d : Row) → k < length rs → In (getD rs k d) rs

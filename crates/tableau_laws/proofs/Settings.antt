@@ -1,20 +1,20 @@
 -- Values of forms where one parameter changes.
 use mathlib.Core.Path.{_≡_, refl, sym, ap, _∙_}
-use mathlib.Core.Bool.{true, _&&_}
+use mathlib.Core.Bool.{true}
 use mathlib.Core.List.{List, [], _∷_, _++_, map}
 use Prim.Native.Nat.{ℕ, zero, suc, _<_}
 use native.Mathlib.Omega.{arith}
-use lib.ListN.{length, getD, set, take}
+use lib.ListN.{length, set, take}
 use lib.Seq.{getD-set-same}
 use lib.IntN.{ℤ, pos, negsuc, _+ℤ_, _-ℤ_, _*ℤ_}
 use Rattle.std.proofs.shelf.Tests.{and-parts}
 use Rattle.base.specs.Numbers.{at}
-use Rattle.base.specs.Forms.{dot, valueAt}
+use Rattle.base.specs.Forms.{valueAt}
 use Rattle.tableau.specs.declared.table.Row.{Row}
 use Rattle.tableau.specs.Cuts.{isZero, noneOf}
 use Rattle.algebra.proofs.Ring.{_⊕_, _⊖_, _⊗_, num, ring}
 use Rattle.algebra.proofs.Dots.{dot-set, set-dot}
-use Rattle.tableau_laws.specs.Lines.{Line, Unused, under}
+use Rattle.tableau_laws.specs.Lines.{Unused, under}
 
 -- ---- the setting with its 1 at the end
 pub set-snoc : (ρ : List ℤ) (k : ℕ) (v : ℤ) → k < length ρ → set ρ k v ++ (pos 1 ∷ []) ≡ set (ρ ++ (pos 1 ∷ [])) k v
