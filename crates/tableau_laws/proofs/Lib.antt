@@ -8,3 +8,4 @@ pub mod Cuts
 pub mod CutKeeps
 pub mod Ends
 pub mod Leaves
+pub mod Start

@@ -2,7 +2,7 @@
 use mathlib.Core.Path.{_≡_}
 use mathlib.Core.Bool.{true}
 use mathlib.Core.List.{List, [], _∷_, _++_, map}
-use Prim.Native.Nat.{ℕ, _<_}
+use Prim.Native.Nat.{ℕ, _<_, _≤_}
 use lib.IntN.{ℤ, pos}
 use lib.ListN.{length}
 use lib.Signed.{_≤ℤ_, _<ℤ_}
@@ -14,14 +14,19 @@ use Rattle.tableau.specs.Rows.{lowest, pivoted}
 use Rattle.tableau.specs.Columns.{entering}
 use Rattle.tableau.specs.Cuts.{cutOf, cutRow, firstFraction, isConstant, lower, upper}
 use Rattle.algebra.specs.Lists.{NonNeg}
-use Rattle.tableau_laws.specs.Lines.{In, Line, SaysAt, Unused, under}
+use Rattle.tableau_laws.specs.Lines.{In, Line, SaysAt, Shaped, Unused, under}
 use Rattle.tableau_laws.specs.Facts.{Right}
 use Rattle.tableau_laws.specs.Settings.{gained}
+use Rattle.tableau_laws.specs.Start.{Plain, unitRows}
 use Rattle.tableau_laws.specs.Ends.{Least, NoPoint, NonNegAt, leafForms, valuesAt}
 
 -- lowest terms keep what a row says
 abbrev pub Lowest-keeps : Type 0
 Lowest-keeps = (ρ : List ℤ) (r : Row) (y : List ℤ) (s v : ℤ) → pos 0 <ℤ r .div → SaysAt (under ρ r) y s v → SaysAt (under ρ (lowest r)) y s v
+
+-- the table that work starts from is right for its own rows
+abbrev pub Start-right : Type 0
+Start-right = (n : ℕ) (ρ : List ℤ) (rest : List Row) → n ≤ 9 → Shaped rest → Plain n rest → Right n (map (under ρ) rest) ρ (unitRows 0 n) rest
 
 -- a pivot at row i in its entering column keeps the table right
 abbrev pub Pivot-keeps : Type 0
@@ -52,4 +57,4 @@ abbrev pub Leaf-right : Type 0
 Leaf-right = (n : ℕ) (sys : List Line) (ρ : List ℤ) (top rest : List Row) (k : ℕ) → Right n sys ρ top rest → NonNegAt ρ (top ++ rest) → firstFraction k top ≡ None → Least n sys (valuesAt ρ (leafForms top))
 
 abbrev pub Table-laws : Type 0
-Table-laws = Lowest-keeps × Pivot-keeps × Cut-keeps × New-keeps × New-holds × New-natural × None-right × Leaf-right
+Table-laws = Lowest-keeps × Start-right × Pivot-keeps × Cut-keeps × New-keeps × New-holds × New-natural × None-right × Leaf-right
