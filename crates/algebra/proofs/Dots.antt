@@ -3,7 +3,7 @@ use mathlib.Core.Path.{_≡_, refl, sym, ap, _∙_}
 use mathlib.Core.List.{List, [], _∷_, _++_, map}
 use Prim.Native.Nat.{ℕ, zero, suc, _<_}
 use native.Mathlib.Omega.{arith}
-use lib.ListN.{length, set}
+use lib.ListN.{length, set, take, drop}
 use lib.IntN.{ℤ, pos, _+ℤ_, _-ℤ_, _*ℤ_, negℤ}
 use Rattle.base.specs.Numbers.{at}
 use Rattle.base.specs.Forms.{dot}
@@ -109,3 +109,9 @@ dot-append [] ys [] vs e = ring 1 (λ r. (r, num (pos 0) ⊕ r)) refl (dot ys vs
 dot-append [] ys (u ∷ us) vs e = absurd (let no : ⊥ = omega arith in no)
 dot-append (x ∷ xs) ys [] vs e = absurd (let no : ⊥ = omega arith in no)
 dot-append (x ∷ xs) ys (u ∷ us) vs e = rw (dot-append xs ys us vs (omega arith)) (ring 4 (λ x u p q. (x ⊗ u ⊕ (p ⊕ q), x ⊗ u ⊕ p ⊕ q)) refl x u (dot xs us) (dot ys vs))
+
+-- a row over two lists, one after the other
+pub dot-split : (xs us vs : List ℤ) → dot xs (us ++ vs) ≡ dot (take (length us) xs) us +ℤ dot (drop (length us) xs) vs
+dot-split xs [] vs = ring 1 (λ r. (r, num (pos 0) ⊕ r)) refl (dot xs vs)
+dot-split [] (u ∷ us) vs = refl
+dot-split (x ∷ xs) (u ∷ us) vs = rw (dot-split xs us vs) (ring 4 (λ x u p q. (x ⊗ u ⊕ (p ⊕ q), x ⊗ u ⊕ p ⊕ q)) refl x u (dot (take (length us) xs) us) (dot (drop (length us) xs) vs))

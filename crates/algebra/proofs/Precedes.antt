@@ -6,12 +6,14 @@ use Prim.Native.Nat.{ℕ, _<_, _≤_}
 use native.Mathlib.Omega.{arith}
 use borrow.Author.Differences.{ints}
 use lib.ListN.{length}
-use lib.IntN.{pos}
+use lib.IntN.{ℤ, pos, natAbs}
 use lib.Signed.{_<ℤ_}
 use Rattle.std.proofs.shelf.Tests.{cases-lt}
 use Rattle.source.specs.Systems.{Precedes}
 use Rattle.algebra.specs.Laws.{Lex-precedes, Precedes-strict, Precedes-total, Precedes-transitive}
+use Rattle.algebra.specs.Lists.{NonNeg}
 use Rattle.algebra.specs.Orders.{LexLe}
+use Rattle.algebra.proofs.Naturals.{pos-sizes}
 
 pub precedes-trans : Precedes-transitive
 precedes-trans [] ys zs p q = absurd p
@@ -72,3 +74,7 @@ precedes-lex [] ys e p = absurd p
 precedes-lex (x ∷ xs) [] e p = absurd p
 precedes-lex (x ∷ xs) (y ∷ ys) e (inl a) = inl (omega (arith, ints))
 precedes-lex (x ∷ xs) (y ∷ ys) e (inr a) = inr (omega (arith, ints, a .0), precedes-lex xs ys (omega arith) (a .1))
+
+-- natural points given as whole numbers
+pub lex-sizes : (xs ys : List ℤ) → NonNeg xs → NonNeg ys → LexLe xs ys → (map natAbs xs ≡ map natAbs ys) ⊎ Precedes (map natAbs xs) (map natAbs ys)
+lex-sizes xs ys n m h = lex-precedes (map natAbs xs) (map natAbs ys) (rw (pos-sizes xs n, pos-sizes ys m) h)

@@ -1,6 +1,7 @@
 -- Lists of whole numbers as vectors, and lists of rows as matrices.
-use Prim.Native.Nat.{ℕ, zero, suc}
+use Prim.Native.Nat.{ℕ}
 use mathlib.Core.List.{List, [], _∷_}
+use lib.ListN.{replicate}
 use lib.IntN.{ℤ, pos, _+ℤ_, _*ℤ_}
 use lib.Signed.{_≤ℤ_}
 use Rattle.base.specs.Numbers.{at}
@@ -18,8 +19,7 @@ plus (x ∷ xs) [] = []
 plus (x ∷ xs) (y ∷ ys) = (x +ℤ y) ∷ plus xs ys
 
 abbrev pub zeros : ℕ → List ℤ
-zeros zero = []
-zeros (suc n) = pos 0 ∷ zeros n
+zeros n = replicate n (pos 0)
 
 -- a natural point: no number below 0
 abbrev pub NonNeg : List ℤ → Type 0

@@ -1,7 +1,6 @@
 -- A cut keeps the four facts.
 use mathlib.Core.Path.{_≡_, sym, ap, subst, _∙_}
 use mathlib.Core.Bool.{true}
-use mathlib.Core.Logic.{inl, inr}
 use mathlib.Core.List.{List, [], _∷_, _++_, map}
 use Prim.Native.Nat.{ℕ, _<_}
 use native.Mathlib.Omega.{arith}
@@ -22,6 +21,7 @@ use Rattle.tableau_laws.specs.Facts.{Facts, Linked, Point, Reached, Right}
 use Rattle.tableau_laws.specs.Settings.{gained, newValue}
 use Rattle.tableau_laws.proofs.Lowest.{lowest-div}
 use Rattle.tableau_laws.proofs.Rows.{of-either, shape-lowest, shaped-more}
+use Rattle.tableau_laws.proofs.Unused.{unused-of}
 use Rattle.tableau_laws.proofs.Settings.{lines-unused}
 use Rattle.tableau_laws.proofs.Pivots.{div-in, reached-value, shape-in}
 use Rattle.tableau_laws.proofs.Cuts.{length-cut, new-cut, plain-cut}
@@ -108,10 +108,5 @@ module _ (n : ℕ) (sys : List Line) (ρ : List ℤ) (top rest : List Row) (r : 
         rest-shaped = shaped-more rest cut (t .rest-shaped) (s .0) (s .1);
       }
     where
-      unused-of : (r : Row) (rs : List Row) → In r rs → Unused q rs → at (r .form) q ≡ pos 0
-      unused-of r [] i u = absurd i
-      unused-of r (x ∷ rs) (inl e) u = subst (λ (t : Row). at (t .form) q ≡ pos 0) e (u .0)
-      unused-of r (x ∷ rs) (inr i) u = unused-of r rs i (u .1)
-
       free : at (r .form) q ≡ pos 0
-      free = of-either (Unused q) _ r top rest (unused-of r) m ut ur
+      free = of-either (Unused q) _ r top rest (unused-of q r) m ut ur

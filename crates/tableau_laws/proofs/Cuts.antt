@@ -4,11 +4,10 @@ use mathlib.Core.Bool.{true}
 use mathlib.Core.List.{List, [], _∷_, _++_, map}
 use Prim.Native.Nat.{ℕ, zero, suc, _<_}
 use native.Mathlib.Omega.{arith}
-use native.Mathlib.Nat.{zero-mod}
 use borrow.Author.Differences.{ints}
 use lib.ListN.{length, take, length-set}
 use lib.Seq.{getD-set-other}
-use lib.IntN.{ℤ, pos, negsuc, natAbs, negℤ, _+ℤ_, _-ℤ_, _*ℤ_}
+use lib.IntN.{ℤ, pos, negsuc, negℤ, _+ℤ_, _-ℤ_, _*ℤ_}
 use lib.Signed.{_≤ℤ_, _<ℤ_}
 use Rattle.std.specs.declared.option.Option.the-variants.{None, Some}
 use Rattle.std.proofs.shelf.Lists.{length-map}
@@ -26,6 +25,7 @@ use Rattle.tableau_laws.specs.Lines.{Says, under}
 use Rattle.tableau_laws.specs.Settings.{gained, newValue}
 use Rattle.tableau_laws.specs.Laws.{New-holds, New-natural}
 use Rattle.tableau_laws.proofs.Lowest.{lowest-says}
+use Rattle.tableau_laws.proofs.Unused.{mod-unused, negs-unused}
 use Rattle.tableau_laws.proofs.Settings.{value-constant, value-none, value-used}
 
 -- ---- d × k = r·y - T + d × q, with k natural: a multiple of d above -d
@@ -52,11 +52,6 @@ at-mods : (d : ℤ) (xs : List ℤ) (k : ℕ) → pos 0 <ℤ d → at (map (modB
 at-mods d [] k h = h
 at-mods d (x ∷ xs) zero h = divided x d h .high
 at-mods d (x ∷ xs) (suc k) h = at-mods d xs k h
-
-mod-unused : (d : ℤ) (C : List ℤ) (q : ℕ) → at C q ≡ pos 0 → at (map (modBy d) (map negℤ C)) q ≡ pos 0
-mod-unused d [] q e = refl
-mod-unused d (x ∷ C) zero e = ap (λ z. modBy d (negℤ z)) e ∙ ap pos (zero-mod (natAbs d))
-mod-unused d (x ∷ C) (suc q) e = mod-unused d C q e
 
 pub length-cut : (r : Row) → length (cutOf r .form) ≡ length (r .form)
 length-cut r = length-map (map negℤ (r .form)) (modBy (r .div)) ∙ length-map (r .form) negℤ
@@ -87,17 +82,18 @@ module _ (ρ : List ℤ) (r : Row) (q : ℕ) (form : length (r .form) ≡ 10) (n
   negs-wide = length-map (cutOf r .form) negℤ ∙ wide
 
   unused : at (map negℤ (cutOf r .form)) q ≡ pos 0
-  unused = at-negs (cutOf r .form) q ∙ ap negℤ (mod-unused (r .div) (r .form) q free)
+  unused = negs-unused (cutOf r .form) q (mod-unused (r .div) (r .form) q free)
 
-  negative : valueAt (cutForm (cutOf r) (Some q)) (gained (cutOf r) q ρ) ≡ negℤ (valueAt (cutOf r .form) ρ) +ℤ r .div *ℤ newValue (cutOf r) ρ
-  negative =
+  -- -T + d × q
+  pub value-new : valueAt (cutForm (cutOf r) (Some q)) (gained (cutOf r) q ρ) ≡ negℤ (valueAt (cutOf r .form) ρ) +ℤ r .div *ℤ newValue (cutOf r) ρ
+  value-new =
       value-used (map negℤ (cutOf r .form)) ρ q (r .div) (newValue (cutOf r) ρ) unused (omega (arith, negs-wide)) (omega (arith, n))
       ∙ ap (λ z. z +ℤ r .div *ℤ newValue (cutOf r) ρ) (dot-negs (cutOf r .form) (ρ ++ (pos 1 ∷ [])))
 
   pub new-cut : (y : List ℤ) (v : ℤ) → NonNeg y → Says (under ρ r) y v → (k : ℕ) × Says (under (gained (cutOf r) q ρ) (cutRow (cutOf r) (Some q))) y (pos k)
   new-cut y v ny e =
       let k = cut-value ρ r y v (newValue (cutOf r) ρ) above ny e (small (valueAt (cutOf r .form) ρ) (r .div *ℤ newValue (cutOf r) ρ) (modulo (valueAt (cutOf r .form) ρ) (r .div)) (r .div) (rest .is) (rest .high)) in
-      (k .0, lowest-says (gained (cutOf r) q ρ) (record { coefs = cutOf r .coefs; form = cutForm (cutOf r) (Some q); div = r .div }) y (pos (k .0)) above (k .1 ∙ ap (λ z. dot (cutOf r .coefs) y +ℤ z) (sym negative)))
+      (k .0, lowest-says (gained (cutOf r) q ρ) (record { coefs = cutOf r .coefs; form = cutForm (cutOf r) (Some q); div = r .div }) y (pos (k .0)) above (k .1 ∙ ap (λ z. dot (cutOf r .coefs) y +ℤ z) (sym value-new)))
     where
       small : (T dq m d : ℤ) → T ≡ dq +ℤ m → m <ℤ d → (T -ℤ dq) <ℤ d
       small T dq m d e h = omega (arith, ints)
@@ -116,7 +112,7 @@ module _ (ρ : List ℤ) (r : Row) (q : ℕ) (form : length (r .form) ≡ 10) (n
 
   pub upper-holds : pos 0 ≤ℤ valueAt (upper (cutOf r) q) (gained (cutOf r) q ρ)
   upper-holds =
-      rw (value-constant (cutForm (cutOf r) (Some q)) (gained (cutOf r) q ρ) (negℤ (at (cutOf r .form) 9) +ℤ (r .div -ℤ pos 1)) (length-set ρ q (newValue (cutOf r) ρ) ∙ n) (omega (arith, length-set (map negℤ (cutOf r .form)) q (r .div), negs-wide)), negative, last)
+      rw (value-constant (cutForm (cutOf r) (Some q)) (gained (cutOf r) q ρ) (negℤ (at (cutOf r .form) 9) +ℤ (r .div -ℤ pos 1)) (length-set ρ q (newValue (cutOf r) ρ) ∙ n) (omega (arith, length-set (map negℤ (cutOf r .form)) q (r .div), negs-wide)), value-new, last)
       (high (valueAt (cutOf r .form) ρ) (r .div *ℤ newValue (cutOf r) ρ) (modulo (valueAt (cutOf r .form) ρ) (r .div)) (r .div) (at (cutOf r .form) 9) (rest .is) (rest .high))
     where
       last : at (cutForm (cutOf r) (Some q)) 9 ≡ negℤ (at (cutOf r .form) 9)

@@ -4,6 +4,7 @@ pub mod Rows
 pub mod Lex
 pub mod Pivots
 pub mod Settings
+pub mod Unused
 pub mod Cuts
 pub mod CutKeeps
 pub mod Ends

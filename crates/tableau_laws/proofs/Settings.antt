@@ -6,14 +6,15 @@ use Prim.Native.Nat.{ℕ, zero, suc, _<_}
 use native.Mathlib.Omega.{arith}
 use lib.ListN.{length, set, take}
 use lib.Seq.{getD-set-same}
-use lib.IntN.{ℤ, pos, negsuc, _+ℤ_, _-ℤ_, _*ℤ_}
+use lib.IntN.{ℤ, pos, negsuc, negℤ, _+ℤ_, _-ℤ_, _*ℤ_}
+use Rattle.std.proofs.shelf.Lists.{length-map}
 use Rattle.std.proofs.shelf.Tests.{and-parts}
 use Rattle.base.specs.Numbers.{at}
-use Rattle.base.specs.Forms.{valueAt}
+use Rattle.base.specs.Forms.{opposite, valueAt}
 use Rattle.tableau.specs.declared.table.Row.{Row}
 use Rattle.tableau.specs.Cuts.{isZero, noneOf}
-use Rattle.algebra.proofs.Ring.{_⊕_, _⊖_, _⊗_, num, ring}
-use Rattle.algebra.proofs.Dots.{dot-set, set-dot}
+use Rattle.algebra.proofs.Ring.{_⊕_, _⊖_, _⊗_, num, ring, ⊝_}
+use Rattle.algebra.proofs.Dots.{at-negs, dot-negs, dot-set, set-dot}
 use Rattle.tableau_laws.specs.Lines.{Unused, under}
 
 -- ---- the setting with its 1 at the end
@@ -48,6 +49,12 @@ pub value-constant : (C ρ : List ℤ) (w : ℤ) → length ρ ≡ 9 → 9 < len
 value-constant C ρ w n h =
     set-dot C (ρ ++ (pos 1 ∷ [])) 9 w h
     ∙ rw (sym (ap (λ k. at (ρ ++ (pos 1 ∷ [])) k) n) ∙ at-snoc ρ) (ring 3 (λ D w c. (D ⊕ (w ⊖ c) ⊗ num (pos 1), D ⊕ (w ⊖ c))) refl (valueAt C ρ) w (at C 9))
+
+-- the opposite of a form is -C - 1
+pub value-opposite : (C ρ : List ℤ) → length C ≡ 10 → length ρ ≡ 9 → valueAt (opposite C) ρ ≡ negℤ (valueAt C ρ) -ℤ pos 1
+value-opposite C ρ e n =
+    value-constant (map negℤ C) ρ (negℤ (at C 9) -ℤ pos 1) n (omega (arith, length-map C negℤ))
+    ∙ rw (dot-negs C (ρ ++ (pos 1 ∷ [])), at-negs C 9) (ring 2 (λ D c. (⊝ D ⊕ ((⊝ c ⊖ num (pos 1)) ⊖ ⊝ c), ⊝ D ⊖ num (pos 1))) refl (valueAt C ρ) (at C 9))
 
 -- rows that do not use the place are the same lines
 pub lines-unused : (ρ : List ℤ) (q : ℕ) (v : ℤ) (rs : List Row) → Unused q rs → q < length ρ → map (under (set ρ q v)) rs ≡ map (under ρ) rs

@@ -1,16 +1,16 @@
 -- The table that work starts from is right.
 use mathlib.Core.Path.{_≡_, refl, sym, ap, _∙_}
-use mathlib.Core.Logic.{_⊎_, inl, inr}
+use mathlib.Core.Logic.{inl, inr}
 use mathlib.Core.List.{List, [], _∷_, _++_, map}
 use Prim.Native.Nat.{ℕ, zero, suc, _+_, _-_, _<_, _≤_}
 use native.Mathlib.Omega.{arith}
 use native.Mathlib.Decide.{ℕ-discrete}
 use native.Mathlib.Nat.{add-zero}
 use borrow.Author.Differences.{ints}
-use lib.ListN.{length, set, length-set}
+use lib.ListN.{length, length-set}
 use lib.Seq.{getD-set-same, getD-set-other}
 use lib.IntN.{ℤ, pos, _+ℤ_, _*ℤ_}
-use lib.Signed.{_≤ℤ_, _<ℤ_}
+use lib.Signed.{_<ℤ_}
 use Rattle.std.proofs.shelf.Lists.{length-append, length-map}
 use Rattle.base.specs.Numbers.{at}
 use Rattle.base.specs.Forms.{dot, valueAt}
@@ -22,7 +22,7 @@ use Rattle.algebra.proofs.Claims.{given, goal, ring-from}
 use Rattle.algebra.proofs.Dots.{at-zeros, dot-comm, dot-padded, dot-zeros, length-zeros, set-dot}
 use Rattle.algebra.proofs.Naturals.{nonneg-append, nonneg-zeros}
 use Rattle.tableau_laws.specs.Lines.{Above, AllSay, AllSayAt, Shaped, coefsOf, under}
-use Rattle.tableau_laws.specs.Facts.{Facts, Linked, Point, Reached, Right, Satisfied}
+use Rattle.tableau_laws.specs.Facts.{Linked, Satisfied}
 use Rattle.tableau_laws.specs.Start.{Plain, unitRow, unitRows}
 use Rattle.tableau_laws.specs.Laws.{Start-right}
 
