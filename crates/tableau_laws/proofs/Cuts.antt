@@ -14,7 +14,7 @@ use Rattle.std.proofs.shelf.Lists.{length-map}
 use Rattle.base.specs.Numbers.{at, floorBy, modBy, modulo}
 use Rattle.base.specs.Forms.{dot, valueAt}
 use Rattle.tableau.specs.declared.table.Row.{Row}
-use Rattle.tableau.specs.Cuts.{cutForm, cutOf, cutRow, isConstant, lower, noneOf, upper}
+use Rattle.tableau.specs.Cuts.{cutForm, cutOf, cutRow, lower, noneOf, upper}
 use Rattle.algebra.specs.Lists.{NonNeg}
 use Rattle.algebra.proofs.Ring.{_⊕_, _⊖_, _⊗_, num, ring, ⊝_}
 use Rattle.algebra.proofs.Claims.{given, goal, ring-from}
@@ -23,7 +23,7 @@ use Rattle.algebra.proofs.Division.{Divided, divided, dot-divided, floor-nonneg
 use Rattle.algebra.proofs.Naturals.{dot-nonneg, nonneg-append, nonneg-set}
 use Rattle.tableau_laws.specs.Lines.{Says, under}
 use Rattle.tableau_laws.specs.Settings.{gained, newValue}
-use Rattle.tableau_laws.specs.Laws.{New-holds, New-natural}
+use Rattle.tableau_laws.specs.Laws.{Cut-natural, New-holds, Setting-natural}
 use Rattle.tableau_laws.proofs.Lowest.{lowest-says}
 use Rattle.tableau_laws.proofs.Unused.{mod-unused, negs-unused}
 use Rattle.tableau_laws.proofs.Settings.{value-constant, value-none, value-used}
@@ -57,7 +57,7 @@ pub length-cut : (r : Row) → length (cutOf r .form) ≡ length (r .form)
 length-cut r = length-map (map negℤ (r .form)) (modBy (r .div)) ∙ length-map (r .form) negℤ
 
 -- ---- the row of a cut whose T names no parameter
-pub plain-cut : (ρ : List ℤ) (r : Row) (y : List ℤ) (v : ℤ) → length (r .form) ≡ 10 → length ρ ≡ 9 → pos 0 <ℤ r .div → isConstant (cutOf r) ≡ true → NonNeg y → Says (under ρ r) y v → (k : ℕ) × Says (under ρ (cutRow (cutOf r) None)) y (pos k)
+pub plain-cut : Cut-natural
 plain-cut ρ r y v f n h c ny e =
     let T = cutOf r .form in
     let none : noneOf (take (length ρ) T) ≡ true = ap (λ k. noneOf (take k T)) n ∙ c in
@@ -125,8 +125,8 @@ pub new-holds : New-holds
 new-holds ρ r q form n lt above free = (lower-holds ρ r q form n lt above free, upper-holds ρ r q form n lt above free)
 
 -- a natural setting stays natural: T has no number below 0
-pub new-natural : New-natural
-new-natural ρ r q above nn =
+pub setting-natural : Setting-natural
+setting-natural ρ r q above nn =
     let T = cutOf r .form in
     let one : NonNeg (ρ ++ (pos 1 ∷ [])) = nonneg-append ρ (pos 1 ∷ []) nn (omega (arith, ints), tt) in
     nonneg-set ρ q (newValue (cutOf r) ρ) nn (floor-nonneg (valueAt T ρ) (r .div) (dot-nonneg T (ρ ++ (pos 1 ∷ [])) (mods-nonneg (r .div) (map negℤ (r .form)) above) one))

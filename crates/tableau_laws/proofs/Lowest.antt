@@ -14,6 +14,7 @@ use Rattle.algebra.proofs.Integers.{cancel-l, one-l}
 use Rattle.algebra.proofs.Ring.{_⊕_, _⊗_, num}
 use Rattle.algebra.proofs.Claims.{given, goal, ring-from}
 use Rattle.algebra.proofs.Dots.{times-dot}
+use Rattle.tableau_laws.specs.Laws.{Lowest-keeps, Lowest-value}
 use Rattle.tableau_laws.specs.Lines.{Line, Says, SaysAt, under}
 
 -- ---- a line and its homogeneous form
@@ -44,10 +45,10 @@ pub factor-above : (r : Row) → pos 0 <ℤ r .div → pos 0 <ℤ pos (gcdOf r)
 factor-above r h = let b = gcdOf-bounds r h in omega (arith, ints, b .0)
 
 -- the value of its form, times the common factor, is that of the row
-pub value-lowest : (ρ : List ℤ) (r : Row) → pos (gcdOf r) *ℤ valueAt (lowest r .form) ρ ≡ valueAt (r .form) ρ
+pub value-lowest : Lowest-value
 value-lowest ρ r = sym (times-dot (pos (gcdOf r)) (lowest r .form) (ρ ++ (pos 1 ∷ []))) ∙ ap (λ (t : Row). valueAt (t .form) ρ) (lowest-times r)
 
-pub lowest-at : (ρ : List ℤ) (r : Row) (y : List ℤ) (s v : ℤ) → pos 0 <ℤ r .div → SaysAt (under ρ r) y s v → SaysAt (under ρ (lowest r)) y s v
+pub lowest-at : Lowest-keeps
 lowest-at ρ r y s v h e = times-lower ρ (pos (gcdOf r)) (lowest r) y s v (factor-above r h) (subst (λ (t : Row). SaysAt (under ρ t) y s v) (sym (lowest-times r)) e)
 
 pub raised-at : (ρ : List ℤ) (r : Row) (y : List ℤ) (s v : ℤ) → SaysAt (under ρ (lowest r)) y s v → SaysAt (under ρ r) y s v

@@ -136,26 +136,26 @@ zero-add m = omega arith
 
 pub start-right : Start-right
 start-right n ρ rest few shaped plain = record {
-    facts = record {
-      reach = λ x p. record {
-        basic = x ++ zeros (9 - n);
-        wide = length-append x (zeros (9 - n)) ∙ wide x (p .counted);
-        natural = nonneg-append x (zeros (9 - n)) (p .natural) (nonneg-zeros (9 - n));
-        unknowns = units-say ρ 0 n (x ++ zeros (9 - n)) x (omega arith) (p .counted) (λ m lt. at-front x (zeros (9 - n)) m (omega (arith, p .counted)) ∙ ap (λ k. at (x ++ zeros (9 - n)) k) (sym (zero-add m)));
-        values = rowValues ρ rest x;
-        values-natural = rows-natural ρ rest x (p .satisfied);
-        others = rows-say ρ n (9 - n) rest x plain;
-      };
-      link = λ y s X ny a.
+  facts = record {
+    reach = λ x p. record {
+      basic = x ++ zeros (9 - n);
+      wide = length-append x (zeros (9 - n)) ∙ wide x (p .counted);
+      natural = nonneg-append x (zeros (9 - n)) (p .natural) (nonneg-zeros (9 - n));
+      unknowns = units-say ρ 0 n (x ++ zeros (9 - n)) x (omega arith) (p .counted) (λ m lt. at-front x (zeros (9 - n)) m (omega (arith, p .counted)) ∙ ap (λ k. at (x ++ zeros (9 - n)) k) (sym (zero-add m)));
+      values = rowValues ρ rest x;
+      values-natural = rows-natural ρ rest x (p .satisfied);
+      others = rows-say ρ n (9 - n) rest x plain;
+    };
+    link = λ y s X ny a.
         let b = units-back ρ 0 n y s X (omega arith) a in
         rows-linked ρ n rest y s X plain (b .0) (omega (arith, ny)) (λ m lt. b .1 m lt ∙ ap (λ k. at y k) (zero-add m));
-      lex = λ c. units-lex ρ 0 n c (omega arith);
-      div = (units-above ρ 0 n, rows-above ρ n rest plain);
-      size = length-map (unitRows 0 n) (under ρ) ∙ units-size 0 n;
-    };
-    top-shaped = units-shaped 0 n;
-    rest-shaped = shaped;
-  }
+    lex = λ c. units-lex ρ 0 n c (omega arith);
+    div = (units-above ρ 0 n, rows-above ρ n rest plain);
+    size = length-map (unitRows 0 n) (under ρ) ∙ units-size 0 n;
+  };
+  top-shaped = units-shaped 0 n;
+  rest-shaped = shaped;
+}
   where
     wide : (x : List ℤ) → length x ≡ n → length x + length (zeros (9 - n)) ≡ 9
     wide x e = omega (arith, length-zeros (9 - n))

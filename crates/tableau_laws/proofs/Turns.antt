@@ -15,6 +15,7 @@ use Rattle.algebra.specs.Lists.{scaled}
 use Rattle.algebra.proofs.Ring.{_⊕_, _⊖_, _⊗_, num, ring, ⊝_}
 use Rattle.algebra.proofs.Claims.{given, goal, ring-from}
 use Rattle.algebra.proofs.Dots.{at-scaled, dot-scaled, dot-set, length-scaled, set-dot}
+use Rattle.tableau_laws.specs.Laws.{Pivot-value}
 use Rattle.tableau_laws.specs.Lines.{Line, Says, SaysAt, under}
 
 -- ---- a linear combination, number by number
@@ -34,6 +35,10 @@ at-combined a b (x ∷ xs) [] k h = absurd (let no : ⊥ = omega arith in no)
 at-combined a b (x ∷ xs) (y ∷ ys) zero h = refl
 at-combined a b (x ∷ xs) (y ∷ ys) (suc k) h = at-combined a b xs ys k (omega arith)
 
+-- the value of a turned row's form, by those of the two rows
+pub value-turned : Pivot-value
+value-turned i j h forms ρ = dot-combined (at (i .coefs) j) (at (h .coefs) j) (h .form) (i .form) (ρ ++ (pos 1 ∷ [])) forms
+
 -- the basic unknowns before the pivot, for y and s after it, all times the pivot's number
 abbrev pub back : Line → ℕ → List ℤ → ℤ → List ℤ
 back i j y s = set (scaled (at (i .coefs) j) y) j (i .div *ℤ at y j -ℤ (dot (i .coefs) y -ℤ at (i .coefs) j *ℤ at y j) -ℤ s *ℤ i .constant)
@@ -49,7 +54,7 @@ forth-law : (a b dh di H I ch ci yj s V : ℤ) → dh *ℤ (a *ℤ V) ≡ a *ℤ
 forth-law = ring-from 11 (λ a b dh di H I ch ci yj s V. given (num (pos 1)) (dh ⊗ (a ⊗ V)) (a ⊗ H ⊕ b ⊗ ((di ⊗ yj ⊖ (I ⊖ a ⊗ yj) ⊖ s ⊗ ci) ⊖ a ⊗ yj) ⊕ (a ⊗ s) ⊗ ch) (goal ((a ⊗ dh) ⊗ V) (a ⊗ H ⊖ b ⊗ I ⊕ (b ⊗ di) ⊗ yj ⊕ s ⊗ (a ⊗ ch ⊖ b ⊗ ci)))) refl
 
 module _ (i : Row) (j : ℕ) (h : Row) (lt : j < length (i .coefs)) (wide : length (h .coefs) ≡ length (i .coefs)) (forms : length (h .form) ≡ length (i .form)) where
-  -- the product of the turned row with any y, and its form's value: by those of the two rows
+  -- the product of the turned row with any y, by those of the two rows
   pub dot-turned : (y : List ℤ) → dot (turned i j h .coefs) y ≡ at (i .coefs) j *ℤ dot (h .coefs) y -ℤ at (h .coefs) j *ℤ dot (i .coefs) y +ℤ (at (h .coefs) j *ℤ i .div) *ℤ at y j
   dot-turned y =
       let a = at (i .coefs) j in
@@ -59,13 +64,10 @@ module _ (i : Row) (j : ℕ) (h : Row) (lt : j < length (i .coefs)) (wide : leng
       ∙ rw (dot-combined a b (h .coefs) (i .coefs) y wide, at-combined a b (h .coefs) (i .coefs) j wide)
       (ring 6 (λ a b H I d y. (a ⊗ H ⊖ b ⊗ I ⊕ (b ⊗ d ⊖ (a ⊗ b ⊖ b ⊗ a)) ⊗ y, a ⊗ H ⊖ b ⊗ I ⊕ (b ⊗ d) ⊗ y)) refl a b (dot (h .coefs) y) (dot (i .coefs) y) (i .div) (at y j))
 
-  pub value-turned : (ρ : List ℤ) → valueAt (turned i j h .form) ρ ≡ at (i .coefs) j *ℤ valueAt (h .form) ρ -ℤ at (h .coefs) j *ℤ valueAt (i .form) ρ
-  value-turned ρ = dot-combined (at (i .coefs) j) (at (h .coefs) j) (h .form) (i .form) (ρ ++ (pos 1 ∷ [])) forms
-
   -- forward: column j now stands for the value that row i had
   pub turned-says : (ρ y : List ℤ) (vi vh : ℤ) → j < length y → Says (under ρ i) y vi → Says (under ρ h) y vh → Says (under ρ (turned i j h)) (set y j vi) vh
   turned-says ρ y vi vh ly p q =
-      rw (dot-turned (set y j vi), value-turned ρ, getD-set-same y j vi (pos 0) ly, dot-set (h .coefs) y j vi ly, dot-set (i .coefs) y j vi ly)
+      rw (dot-turned (set y j vi), value-turned i j h forms ρ, getD-set-same y j vi (pos 0) ly, dot-set (h .coefs) y j vi ly, dot-set (i .coefs) y j vi ly)
       (forward-law (at (i .coefs) j) (at (h .coefs) j) (h .div) (i .div) vh vi (dot (h .coefs) y) (dot (i .coefs) y) (valueAt (h .form) ρ) (valueAt (i .form) ρ) (at y j) p q)
 
   -- the product of row h with the basic unknowns before the pivot
@@ -79,9 +81,9 @@ module _ (i : Row) (j : ℕ) (h : Row) (lt : j < length (i .coefs)) (wide : leng
   pub turned-back : (ρ y : List ℤ) (s X : ℤ) → j < length y → SaysAt (under ρ (turned i j h)) y s X → SaysAt (under ρ h) (back (under ρ i) j y s) (at (i .coefs) j *ℤ s) (at (i .coefs) j *ℤ X)
   turned-back ρ y s X ly p =
       rw (dot-back ρ y s ly)
-      (back-law (at (i .coefs) j) (at (h .coefs) j) (h .div) (i .div) (dot (h .coefs) y) (dot (i .coefs) y) (valueAt (h .form) ρ) (valueAt (i .form) ρ) (at y j) s X (rw (dot-turned y, value-turned ρ) at p))
+      (back-law (at (i .coefs) j) (at (h .coefs) j) (h .div) (i .div) (dot (h .coefs) y) (dot (i .coefs) y) (valueAt (h .form) ρ) (valueAt (i .form) ρ) (at y j) s X (rw (dot-turned y, value-turned i j h forms ρ) at p))
 
   pub turned-forth : (ρ y : List ℤ) (s V : ℤ) → j < length y → SaysAt (under ρ h) (back (under ρ i) j y s) (at (i .coefs) j *ℤ s) (at (i .coefs) j *ℤ V) → SaysAt (under ρ (turned i j h)) y s V
   turned-forth ρ y s V ly p =
-      rw (dot-turned y, value-turned ρ)
+      rw (dot-turned y, value-turned i j h forms ρ)
       (forth-law (at (i .coefs) j) (at (h .coefs) j) (h .div) (i .div) (dot (h .coefs) y) (dot (i .coefs) y) (valueAt (h .form) ρ) (valueAt (i .form) ρ) (at y j) s V (rw (dot-back ρ y s ly) at p))
