@@ -10,3 +10,4 @@ pub mod CutKeeps
 pub mod Ends
 pub mod Leaves
 pub mod Start
+pub mod Tables

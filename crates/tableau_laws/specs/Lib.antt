@@ -1,5 +1,6 @@
 pub mod Lines
 pub mod Facts
+pub mod Tables
 pub mod Settings
 pub mod Start
 pub mod Ends
