@@ -5,7 +5,8 @@ use Prim.Native.Nat.{ℕ, zero, suc}
 use native.Mathlib.Omega.{arith}
 use borrow.Author.Differences.{ints}
 use lib.IntN.{ℤ, pos, _-ℤ_, _*ℤ_, *ℤ-zero}
-use Rattle.algebra.proofs.Ring.{Expr, _⊖_, _⊗_, eval, evalP, nil, norm, norm-is, snoc, var}
+use Rattle.algebra.proofs.Polynomials.{evalP, nil}
+use Rattle.algebra.proofs.Ring.{Expr, _⊖_, _⊗_, eval, norm, norm-is, snoc, var}
 
 -- `goal l r` is l ≡ r, `given f p q k` is p ≡ q → k. The proof: l - r is the sum of f·(p - q)
 pub data Claim : Type 0 where

@@ -1,4 +1,5 @@
 pub mod Integers
+pub mod Polynomials
 pub mod Ring
 pub mod Claims
 pub mod Orders

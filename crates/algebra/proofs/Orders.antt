@@ -7,7 +7,8 @@ use borrow.Author.Differences.{ints}
 use lib.IntN.{ℤ, pos, _-ℤ_, _*ℤ_, *ℤ-zero}
 use lib.Signed.{_≤ℤ_}
 use Rattle.algebra.proofs.Integers.{nonneg-mul}
-use Rattle.algebra.proofs.Ring.{Expr, Poly, _⊖_, _⊗_, eval, evalP, nil, norm, norm-is, num, snoc, term, unit, var}
+use Rattle.algebra.proofs.Polynomials.{Poly, evalP, nil, term, unit}
+use Rattle.algebra.proofs.Ring.{Expr, _⊖_, _⊗_, eval, norm, norm-is, num, snoc, var}
 
 -- `goal-le l r` is l ≤ r, `given-le f p q k` is p ≤ q → k with f a natural number, `given-is f p q k` is p ≡ q → k.
 -- The proof: r - l is the sum of the f·(q - p), and a natural number that is left
