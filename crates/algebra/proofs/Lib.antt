@@ -9,3 +9,4 @@ pub mod Naturals
 pub mod Lex
 pub mod Columns
 pub mod Precedes
+pub mod Systems

@@ -2,9 +2,11 @@
 use mathlib.Core.Path.{_≡_, refl, sym, ap, subst, _∙_}
 use mathlib.Core.Logic.{_≢_, inl, inr}
 use mathlib.Core.List.{List, [], _∷_, _++_, map}
-use Prim.Native.Nat.{ℕ, zero, suc}
+use mathlib.Core.Bool.{true}
+use Prim.Native.Nat.{ℕ, zero, suc, _<_}
+use native.Mathlib.Omega.{arith}
 use native.Mathlib.Nat.{zero-div, zero-mod}
-use lib.ListN.{length, set}
+use lib.ListN.{length, set, take}
 use lib.Seq.{getD-set-other}
 use lib.IntN.{ℤ, pos, natAbs, negℤ, _+ℤ_, _-ℤ_}
 use Rattle.std.specs.declared.option.Option.the-variants.{None, Some}
@@ -12,7 +14,7 @@ use Rattle.base.specs.Numbers.{at, modBy, quotBy}
 use Rattle.base.specs.Forms.{opposite}
 use Rattle.tableau.specs.declared.table.Row.{Row}
 use Rattle.tableau.specs.Rows.{gcdOf, lowest, pivoted, turned}
-use Rattle.tableau.specs.Cuts.{cutForm, cutOf, cutRow, lower, upper}
+use Rattle.tableau.specs.Cuts.{cutForm, cutOf, cutRow, isConstant, isZero, lower, noneOf, upper}
 use Rattle.algebra.proofs.Ring.{_⊖_, _⊗_, num, ring}
 use Rattle.algebra.proofs.Dots.{at-negs}
 use Rattle.tableau_laws.specs.Lines.{In, Shaped, Unused}
@@ -73,6 +75,19 @@ upper-unused q p r ne last e =
     getD-set-other (set (map negℤ T) p (r .div)) 9 q (negℤ (at T 9) +ℤ (r .div -ℤ pos 1)) (pos 0) last
     ∙ getD-set-other (map negℤ T) p q (r .div) (pos 0) ne
     ∙ negs-unused T q (mod-unused (r .div) (r .form) q e)
+
+-- ---- a form that uses no place before n
+zero-is : (z : ℤ) → z ≡ pos 0 → isZero z ≡ true
+zero-is z e = ap isZero e
+
+pub none-used : (n : ℕ) (C : List ℤ) → ((q : ℕ) → q < n → at C q ≡ pos 0) → noneOf (take n C) ≡ true
+none-used zero C h = refl
+none-used (suc n) [] h = refl
+none-used (suc n) (x ∷ C) h = rw (zero-is x (h 0 (omega arith)), none-used n C (λ q lt. h (suc q) (omega arith)))
+
+-- so its cut needs no new parameter
+pub constant-cut : (r : Row) → ((q : ℕ) → q < 9 → at (r .form) q ≡ pos 0) → isConstant (cutOf r) ≡ true
+constant-cut r h = none-used 9 (cutOf r .form) (λ q lt. mod-unused (r .div) (r .form) q (h q lt))
 
 -- ---- splits
 pub opposite-unused : (q : ℕ) (C : List ℤ) → q ≢ 9 → at C q ≡ pos 0 → at (opposite C) q ≡ pos 0
