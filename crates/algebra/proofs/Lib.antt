@@ -1,0 +1,12 @@
+pub mod Integers
+pub mod Polynomials
+pub mod Ring
+pub mod Claims
+pub mod Orders
+pub mod Dots
+pub mod Division
+pub mod Naturals
+pub mod Lex
+pub mod Columns
+pub mod Precedes
+pub mod Systems

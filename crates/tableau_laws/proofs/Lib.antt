@@ -1,0 +1,13 @@
+pub mod Lowest
+pub mod Turns
+pub mod Rows
+pub mod Lex
+pub mod Pivots
+pub mod Settings
+pub mod Unused
+pub mod Cuts
+pub mod CutKeeps
+pub mod Ends
+pub mod Leaves
+pub mod Start
+pub mod Tables
