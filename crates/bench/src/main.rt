@@ -3,6 +3,7 @@
 use base::refusal::Refusal;
 use listing::read::Listing;
 use listing::read::read;
+use listing::solve::WORK;
 use solver::run::solve_into;
 use source::rows::acts::SourceOfRows;
 use std::env;
@@ -10,9 +11,6 @@ use std::error::AnyError;
 use std::fs;
 use std::time::Instant;
 use tree::node::Node;
-
-/// The nodes that the work table holds.
-const WORK: usize = 64;
 
 /// What a round did: how many listings were solved or refused in a run, and the steps made.
 #[derive(Clone, Copy)]
@@ -35,11 +33,10 @@ fn steps_of(refusal: &Refusal) -> u64 {
 }
 
 /// Solves a listing the given number of times, and answers the steps of all of them.
-fn solve_rounds(listing: &Listing, rounds: u32) -> u64 {
-    let mut work = [Node::None; WORK];
+fn solve_rounds(listing: &Listing, rounds: u32, work: &mut [Node]) -> u64 {
     let mut steps = 0u64;
     for _ in 0..rounds {
-        let made = match solve_into(&listing.source, &mut work, listing.fuel) {
+        let made = match solve_into(&listing.source, work, listing.fuel) {
             Ok(solved) => u64::from(solved.steps),
             Err(refusal) => steps_of(&refusal),
         };
@@ -53,7 +50,8 @@ fn solve_all(text: &str, rounds: u32) -> Tally {
     let mut tally = Tally { runs: 0, steps: 0 };
     for line in text.lines() {
         if let Ok(listing) = read(line.as_bytes()) {
-            let steps = solve_rounds(&listing, rounds);
+            let mut work = [Node::None; WORK];
+            let steps = solve_rounds(&listing, rounds, &mut work);
             tally.runs = tally.runs.saturating_add(u64::from(rounds));
             tally.steps = tally.steps.saturating_add(steps);
         }

@@ -5,6 +5,9 @@ use crate::show::RefusalText;
 use crate::show::RefusalTextDisplay;
 use crate::show::TreeText;
 use crate::show::TreeTextDisplay;
+use crate::solve::solve_text;
+use base::refusal::Met;
+use base::refusal::Place;
 use base::refusal::Refusal;
 use base::refusal::RefusalDebug;
 use base::refusal::RefusalPartialEq;
@@ -138,4 +141,34 @@ steps 0
 fn a_refusal_is_shown(rt: LibcRuntime) -> Result<(), Fail> {
     let text = format!(rt.alloc(), "{}", RefusalText(Refusal::Counts))?;
     check_eq(text.as_str(), "refused 11\n")
+}
+
+#[test]
+fn fuel_is_spent_in_a_test() -> Result<(), Fail> {
+    let mut work = [Node::None; 64];
+    match solve_text(b"1 1 1 0 11 2 -1 0", &mut work) {
+        Err(refusal) => check_eq(
+            refusal,
+            Refusal::FuelSpent(Met {
+                steps: 11,
+                place: Place::Test,
+            }),
+        ),
+        Ok(_) => Err(Fail::new("it has fuel for eleven steps")),
+    }
+}
+
+#[test]
+fn a_work_table_of_four_nodes_is_full() -> Result<(), Fail> {
+    let mut work = [Node::None; 4];
+    match solve_text(b"1 1 1 0 12 2 -1 0", &mut work) {
+        Err(refusal) => check_eq(
+            refusal,
+            Refusal::WorkFull(Met {
+                steps: 12,
+                place: Place::Node,
+            }),
+        ),
+        Ok(_) => Err(Fail::new("the tree has five nodes")),
+    }
 }
