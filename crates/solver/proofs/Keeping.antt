@@ -149,3 +149,15 @@ within-written xs i z f small all = within-set (2 ^ 30) xs i (toZ w64 (ofZ w64 z
 
 pub within-drop : (m n : ℕ) (xs : List ℤ) → AllWithin m xs → AllWithin m (drop n xs)
 within-drop m n xs h k = rw (getD-drop n xs k (pos 0)) (h (n + k))
+
+-- a state after a new parameter was made: two rows joined the context
+pub state-new : (s : State) (y : Context) → StateReady s → s .context .made < 5 → ContextReady y → y .count ≡ s .context .count + 2 → y .made ≡ s .context .made → StateReady (record { table = s .table; context = record { forms = y .forms; count = y .count; parameters = y .parameters; made = y .made + 1 }; cuts = s .cuts; left = s .left })
+state-new s y r few k e f =
+    record {
+      table = r .table;
+      unknowns = r .unknowns;
+      cuts = r .cuts;
+      rows = r .rows;
+      context = record { room = k .room; few = k .few; new = omega (arith, f); small = k .small };
+      forms = omega (arith, e, f, r .forms);
+    }

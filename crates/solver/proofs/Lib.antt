@@ -5,3 +5,6 @@ pub mod Constants
 pub mod Testing
 pub mod Cutting
 pub mod Signing
+pub mod Writing
+pub mod Settling
+pub mod Reading

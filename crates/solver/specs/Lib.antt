@@ -4,3 +4,5 @@ pub mod Tests
 pub mod Rules
 pub mod Solves
 pub mod Ties
+pub mod Ends
+pub mod Computing

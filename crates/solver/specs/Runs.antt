@@ -44,6 +44,10 @@ metAt place c = record { steps = c .steps; place = place }
 unfoldable pub refuse : {A : Type 0} → (Met → Refusal) → Place → Run A
 refuse why place l c = Err (why (metAt place c))
 
+-- a refusal that says nothing of the run
+unfoldable pub fail : {A : Type 0} → Refusal → Run A
+fail r l c = Err r
+
 -- a step, where fuel is left
 abbrev pub stepped : Count → Count
 stepped c = record { steps = suc (c .steps); nodes = c .nodes }

@@ -19,7 +19,7 @@ use Rattle.tree.specs.declared.node.Node.the-variants.{Head, Keep, None as Blan
 use Rattle.tree.specs.Trees.{Tree, nodes}
 use Rattle.solver.specs.declared.count.Count.{Count}
 use Rattle.solver.specs.declared.run.Solved.{Solved}
-use Rattle.solver.specs.Runs.{Limits, Outcome, Run, return, _>>=_, _>>_, write}
+use Rattle.solver.specs.Runs.{Limits, Outcome, Run, fail, return, _>>=_, _>>_, write}
 use Rattle.solver.specs.Tests.{unitRows, zeros}
 use Rattle.solver.specs.Rules.{Work, node, test}
 
@@ -78,12 +78,13 @@ unfoldable pub keeps : List (List ℤ) → Run (Unit {0})
 keeps [] = return tt
 keeps (C ∷ Cs) = write Node >> keeps Cs
 
+-- where no parameter point meets the context, there is nothing to answer for
+unfoldable pub begun : Work → Bool → Run Tree
+begun s true = write Node >> (keeps (s .context) >> node 12 s)
+begun s false = fail NoParameterPoint
+
 unfoldable pub run : Work → Run Tree
-run s = test (s .parameters) (s .made) (s .context) >>= begin s
-  where
-    begin : Work → Bool → Run Tree
-    begin s true = write Node >> (keeps (s .context) >> node 12 s)
-    begin s false = λ l c. Err NoParameterPoint
+run s = test (s .parameters) (s .made) (s .context) >>= begun s
 
 -- what a solve answers, with the tree
 unfoldable pub solved : System → ℤ → ℕ → Outcome Tree

@@ -1,31 +1,38 @@
 -- The tables, contexts and states of the code, as the rules see them.
 use mathlib.Core.Bool.{cond}
 use mathlib.Core.Path.{_≡_}
-use mathlib.Core.List.{List, [], _∷_}
+use mathlib.Core.List.{List, [], _∷_, _++_, map}
 use Prim.Native.Nat.{ℕ, suc, _+_}
 use lib.Dec.{ltb}
 use lib.IntN.{ℤ, pos}
 use lib.Signed.{ltZ}
-use lib.ListN.{drop, getD}
+use lib.ListN.{drop, getD, length, take}
 use Rattle.std.specs.declared.option.Option.{Option}
 use Rattle.std.specs.declared.option.Option.the-variants.{Some, None}
 use Rattle.std.specs.declared.result.Result.{Result}
 use Rattle.std.specs.declared.result.Result.the-variants.{Ok, Err}
 use Rattle.base.specs.declared.refusal.Place.{Place}
+use Rattle.base.specs.declared.refusal.Place.the-variants.{Node}
 use Rattle.base.specs.declared.refusal.Refusal.{Refusal}
-use Rattle.base.specs.declared.refusal.Refusal.the-variants.{FuelSpent}
-use Rattle.base.specs.Numbers.{at}
+use Rattle.base.specs.declared.refusal.Refusal.the-variants.{FuelSpent, WorkFull}
+use Rattle.base.specs.Numbers.{at, quotBy}
+use Rattle.source.specs.Limits.{countsAnswer, numbersAnswer}
+use Rattle.source.specs.Systems.{System}
 use Rattle.tableau.specs.declared.table.Row.{Row}
 use Rattle.tableau.specs.declared.table.Table.{Table}
 use Rattle.tableau.specs.Tables.{inUse, noRow, top}
+use Rattle.tree.specs.declared.node.Node.{Node as TreeNode}
 use Rattle.solver.specs.declared.context.Context.{Context}
 use Rattle.solver.specs.declared.count.Count.{Count}
+use Rattle.solver.specs.declared.read.Counts.{Counts}
 use Rattle.solver.specs.declared.sign.Scan.{Scan as Found}
 use Rattle.solver.specs.declared.sign.Scan.the-variants.{Negative, Unsure, Clear}
 use Rattle.solver.specs.declared.state.State.{State}
 use Rattle.solver.specs.Bounds.{inForce}
-use Rattle.solver.specs.Runs.{Limits, Outcome, metAt, stepped}
+use Rattle.solver.specs.Runs.{Limits, Outcome, metAt, noted, stepped}
 use Rattle.solver.specs.Rules.{Scan, Work, below, clear, unsure}
+use Rattle.solver.specs.Solves.{andThen, fitted, formOf, numbersFit, rowOf, start, systemFits}
+use Rattle.solver.specs.Tests.{unitRows}
 
 abbrev pub limits : ℕ → ℕ → Limits
 limits fuel room = record { fuel = fuel; room = room }
@@ -97,3 +104,58 @@ abbrev pub firstUnsure : Found → ℕ → Found
 firstUnsure Clear h = Unsure h
 firstUnsure (Unsure k) h = Unsure k
 firstUnsure (Negative k) h = Negative k
+
+-- ---- the work table
+-- these nodes stand from a place on, and the other places hold what they held
+abbrev pub Wrote : List TreeNode → ℕ → List TreeNode → List TreeNode → Type 0
+Wrote before from ns after = after ≡ take from before ++ (ns ++ drop (from + length ns) before)
+
+-- the same where the write was made; refused, nothing is written
+abbrev pub WroteIf : List TreeNode → ℕ → List TreeNode → List TreeNode → Result Count Refusal → Type 0
+WroteIf before from ns after (Ok _) = Wrote before from ns after
+WroteIf before from ns after (Err _) = after ≡ before
+
+-- a node, as a count alone
+abbrev pub notedIn : ℕ → Count → Result Count Refusal
+notedIn room c = cond (ltb (c .nodes) room) (Ok (noted c)) (Err (WorkFull (metAt Node c)))
+
+-- what a run that only counts answers
+abbrev pub counted : Result Count Refusal → Outcome (Unit {0})
+counted (Ok c) = Ok (tt, c)
+counted (Err e) = Err e
+
+-- the form of a row over its divisor
+abbrev pub solutionOf : Row → List ℤ
+solutionOf r = map (quotBy (r .div)) (r .form)
+
+
+-- ---- what is read of a system
+abbrev pub countsOf : System → Counts
+countsOf S = record { n = S .n; p = S .p; m = length (S .rows); k = length (S .context) }
+
+abbrev pub countsRead : System → Result Counts Refusal
+countsRead S = andThen (countsAnswer (S .n) (S .p) (length (S .rows)) (length (S .context))) (Ok (countsOf S))
+
+-- row i, if its numbers are within the limits
+abbrev pub rowRead : ℕ → ℕ → ℕ → List ℤ → Result Row Refusal
+rowRead n p i row = andThen (numbersAnswer i row) (Ok (rowOf n p row))
+
+abbrev pub formRead : ℕ → ℕ → List ℤ → Result (List ℤ) Refusal
+formRead p i row = andThen (numbersAnswer i row) (Ok (formOf p row))
+
+-- the table of n unknowns and these rows, or the refusal of the first row that is out of limits
+abbrev pub TableRead : ℕ → ℕ → List (List ℤ) → Result Table Refusal → Type 0
+TableRead n p rows (Ok t) =
+    (numbersFit 0 (map (fitted (n + p + 1)) rows) ≡ Ok tt) × (top t ≡ unitRows 0 n) × (rest t ≡ map (rowOf n p) (map (fitted (n + p + 1)) rows))
+TableRead n p rows (Err e) = numbersFit 0 (map (fitted (n + p + 1)) rows) ≡ Err e
+
+-- the context of these context rows, the first of them being row m
+abbrev pub ContextRead : ℕ → ℕ → List (List ℤ) → Result Context Refusal → Type 0
+ContextRead m p rows (Ok x) =
+    (numbersFit m (map (fitted (p + 1)) rows) ≡ Ok tt) × (inForce x ≡ map (λ row. formOf p (fitted (p + 1) row)) rows) × (x .parameters ≡ p) × (x .made ≡ 0)
+ContextRead m p rows (Err e) = numbersFit m (map (fitted (p + 1)) rows) ≡ Err e
+
+-- the state that a solve of S starts from, or why there is none
+abbrev pub Started : System → Result State Refusal → Type 0
+Started S (Ok s) = (systemFits S ≡ Ok tt) × (workOf s ≡ start S) × (s .left ≡ 12)
+Started S (Err e) = systemFits S ≡ Err e

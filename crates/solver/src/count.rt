@@ -33,6 +33,7 @@ impl Count {
 /// Inner: one step more, where fuel is left.
 pub fn tick(place: Place, fuel: u32, count: Count) -> Result<Count, Refusal>
     ensures value { λ r. ⌜ r ≡ ticked place fuel count ⌝ }
+    ensures nodes { λ r. ⌜ made r (λ c. c .nodes ≡ count .nodes) ⌝ }
     ensures moved { λ r. ⌜ made r (Moved fuel count) ⌝ }
 {
     if count.steps >= fuel {

@@ -1,11 +1,15 @@
 //! Node work and split, which call each other with the depth left falling.
 ghost use mathlib.Core.Path.{_≡_};
 ghost use mathlib.Core.Bool.{true};
+ghost use mathlib.Core.List.{map};
 ghost use Prim.Native.Nat.{_<_, _≤_};
 ghost use Rattle.std.specs.Vec.{made};
 ghost use Rattle.tableau.specs.Rows.{Sound};
-ghost use Rattle.tableau.specs.Tables.{Ready};
+ghost use Rattle.tableau.specs.Tables.{Ready, top};
+ghost use Rattle.tree.specs.declared.node.Node.the-variants.{Leaf};
+ghost use Rattle.tree.specs.Trees.{sixForms};
 ghost use Rattle.solver.specs.Bounds.{StateReady, Stepped};
+ghost use Rattle.solver.specs.Ties.{solutionOf};
 use crate::context::join;
 use crate::count::Count;
 use crate::count::barred;
@@ -32,6 +36,7 @@ pub const DEPTH: u8 = 12;
 /// The row's form over its divisor, which divides each number of it.
 fn solution(row: &Row) -> NodeForm
     requires { ⌜ Sound (now row) ⌝ }
+    ensures value { λ r. ⌜ r ≡ solutionOf (now (row .entry)) ⌝ }
 {
     let mut form = row.form;
     divide(Divisor { value: row.div }, &mut form);
@@ -42,6 +47,7 @@ fn solution(row: &Row) -> NodeForm
 fn leaf_of(t: &Table) -> Node
     requires ready { ⌜ Ready (now t) ⌝ }
     requires few { ⌜ now t .unknowns ≤ 6 ⌝ }
+    ensures value { λ r. ⌜ r ≡ Leaf (sixForms (map solutionOf (top (now (t .entry))))) ⌝ }
 {
     let mut forms = [[0; 10]; 6];
     for h in 0..t.unknowns {

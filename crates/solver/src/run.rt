@@ -1,8 +1,13 @@
 //! A solve from end to end: the context's own test, head and keeps, the tree.
 ghost use mathlib.Core.Path.{_≡_};
-ghost use Prim.Native.Nat.{_≤_};
+ghost use mathlib.Core.List.{map};
+ghost use Prim.Native.Nat.{ℕ, _+_, _≤_};
+ghost use lib.ListN.{length, replicate};
 ghost use Rattle.std.specs.Vec.{made};
-ghost use Rattle.solver.specs.Bounds.{ContextReady, StateReady, Stepped};
+ghost use Rattle.tree.specs.declared.node.Node.the-variants.{Keep, None as Blank};
+ghost use Rattle.solver.specs.Bounds.{ContextReady, StateReady, Stepped, inForce};
+ghost use Rattle.solver.specs.Solves.{keeps};
+ghost use Rattle.solver.specs.Ties.{Wrote, counted, limits};
 use crate::context::Context;
 use crate::count::Count;
 use crate::node::node;
@@ -28,6 +33,10 @@ pub struct Solved {
 /// The keeps of a tree: the context rows of its system.
 fn write_keeps(ctx: &Context, work: &mut [Node], start: Count) -> Result<Count, Refusal>
     requires { ⌜ ContextReady (now ctx) ⌝ }
+    ensures value { λ r. ⌜ ((fuel : ℕ) → keeps (inForce (now (ctx .entry))) (limits fuel (length (now (work .entry)))) start ≡ counted r) ⌝ }
+    ensures left { λ r. ⌜ made r (λ _. Wrote (now (work .entry)) (start .nodes) (map Keep (inForce (now (ctx .entry)))) (now (work .exit))) ⌝ }
+    ensures nodes { λ r. ⌜ made r (λ c. c .nodes ≡ start .nodes + now (ctx .entry) .count) ⌝ }
+    ensures room { λ r. ⌜ (start .nodes ≤ length (now (work .entry)) → made r (λ c. c .nodes ≤ length (now (work .entry)))) ⌝ }
     ensures steps { λ r. ⌜ made r (λ c. c .steps ≡ start .steps) ⌝ }
 {
     let mut count = start;
@@ -64,7 +73,9 @@ fn read_and_run<S: Source>(source: &S, work: &mut [Node], fuel: i64) -> Result<C
 }
 
 /// Blanks all nodes.
-fn blank(work: &mut [Node]) {
+fn blank(work: &mut [Node])
+    ensures left { λ _. ⌜ now (work .exit) ≡ replicate (length (now (work .entry))) Blank ⌝ }
+{
     for node in work.iter_mut() {
         *node = Node::None;
     }

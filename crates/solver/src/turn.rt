@@ -37,6 +37,7 @@ pub fn turn(
     ensures constants { λ r. ⌜ (AllConst (inUse (now (t .entry))) → made r (λ _. AllConst (inUse (now (t .exit))))) ⌝ }
     ensures ready { λ r. ⌜ made r (λ _. Ready (now (t .exit))) ⌝ }
     ensures counts { λ _. ⌜ (now (t .exit) .count ≡ now (t .entry) .count) × (now (t .exit) .unknowns ≡ now (t .entry) .unknowns) ⌝ }
+    ensures nodes { λ r. ⌜ made r (λ c. c .nodes ≡ count .nodes) ⌝ }
     ensures moved { λ r. ⌜ made r (Moved fuel count) ⌝ }
 {
     let next = tick(place, fuel, count)?;
@@ -62,6 +63,7 @@ pub fn add_row(
     ensures constants { λ r. ⌜ (AllConst (inUse (now (t .entry))) → ConstForm row → made r (λ _. AllConst (inUse (now (t .exit))))) ⌝ }
     ensures ready { λ r. ⌜ made r (λ _. Ready (now (t .exit))) ⌝ }
     ensures counts { λ r. ⌜ made r (λ _. (now (t .exit) .count ≡ now (t .entry) .count + 1) × (now (t .exit) .unknowns ≡ now (t .entry) .unknowns)) ⌝ }
+    ensures nodes { λ r. ⌜ made r (λ c. c .nodes ≡ count .nodes) ⌝ }
     ensures stepped { λ r. ⌜ made r (Stepped fuel count) ⌝ }
 {
     if !fits(&row) {

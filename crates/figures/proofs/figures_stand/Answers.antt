@@ -1,5 +1,7 @@
 use mathlib.Core.Path.{refl}
+use Rattle.solver.specs.Computing.{computing}
 use Rattle.figures.proofs.figures_stand.Needs as need
 
 pub returns : need.returns
-returns c = (refl, (refl, (refl, (refl, ((refl, refl), ((refl, refl), tt))))))
+unfolding computing
+returns c = (refl, (refl, (refl, (refl, ((refl, refl), ((refl, refl), (refl, (refl, (refl, (refl, (refl, tt)))))))))))

@@ -1,8 +1,10 @@
-use Prim.Native.Nat.{_^_}
+use Prim.Native.Nat.{_-_, _^_}
 use mathlib.Core.Path.{_≡_}
-use lib.ListN.{length}
+use mathlib.Core.List.{_++_}
+use lib.ListN.{length, take}
 use Rattle.base.specs.Numbers.{AllWithin}
+use Rattle.solver.specs.Tests.{zeros}
 use Rattle.solver.proofs.read.coefficients_of.Given as given
 
 abbrev pub Inv-loop-l : given.InvT-loop-l
-Inv-loop-l l = (length (l .coefs) ≡ 9) × AllWithin (2 ^ 30) (l .coefs)
+Inv-loop-l l = (length (l .coefs) ≡ 9) × AllWithin (2 ^ 30) (l .coefs) × (l .coefs ≡ take (l .l) (l .numbers) ++ zeros (9 - l .l))

@@ -1,6 +1,8 @@
-use borrow.Author.Needs.{needs}
 use native.Mathlib.Omega.{arith}
+use mathlib.Core.Path.{ap, _∙_}
+use lib.IntN.{pos}
 use Rattle.std.proofs.shelf.Lists.{length-drop, take-rest}
+use Rattle.solver.specs.Solves.{formOf}
 use Rattle.solver.proofs.Keeping.{sound-one, within-drop}
 use Rattle.solver.proofs.read.row_of.Needs as need
 
@@ -15,4 +17,11 @@ form-of-form-requires c κs =
     }
 
 pub returns : need.returns
-returns c = record { sound = sound-one (c .coefficients-of-coefs .result) (c .form-of-form .result) (c .coefficients-of-coefs .ensures .small) (c .form-of-form .ensures .small) }
+returns c =
+    let xs = c .args .numbers .now in
+    let p = c .args .p in
+    let f = c .form-of-form .ensures .value ∙ ap (formOf p) (take-rest xs (c .args .n)) in
+    record {
+      value = λ k. record { coefs = c .coefficients-of-coefs .ensures .value k; form = f k; div = pos 1 };
+      sound = sound-one (c .coefficients-of-coefs .result) (c .form-of-form .result) (c .coefficients-of-coefs .ensures .small) (c .form-of-form .ensures .small);
+    }

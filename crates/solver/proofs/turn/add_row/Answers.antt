@@ -1,5 +1,5 @@
 use borrow.Author.Needs.{needs}
-use mathlib.Core.Path.{_≡_, sym, ap, _∙_, subst}
+use mathlib.Core.Path.{_≡_, refl, sym, ap, _∙_, subst}
 use mathlib.Core.Bool.{true, false}
 use native.Mathlib.Omega.{arith}
 use lib.ListN.{getD}
@@ -22,6 +22,7 @@ returns-then-not-fits c =
       constants = λ _ _. tt;
       ready = tt;
       counts = tt;
+      nodes = tt;
       stepped = tt;
     }
 
@@ -40,6 +41,7 @@ returns-in-Some c =
       constants = λ a h. c .turn .ensures .constants (subst AllConst (sym (q .rows)) (const-push _ _ a h));
       ready = search needs;
       counts = search needs;
+      nodes = c .turn .ensures .nodes;
       stepped = search needs;
     }
 
@@ -54,5 +56,6 @@ returns-in-None c =
       constants = λ a h. subst AllConst (sym (q .rows)) (const-push _ _ a h);
       ready = q .ready;
       counts = q .counts;
+      nodes = refl;
       stepped = search needs;
     }

@@ -22,6 +22,7 @@ returns-in-Break-next c =
       constants = λ _. made-from-err _ _ (c .from-residual .ensures .0);
       ready = made-from-err _ _ (c .from-residual .ensures .0);
       counts = search needs;
+      nodes = made-from-err _ _ (c .from-residual .ensures .0);
       moved = made-from-err _ _ (c .from-residual .ensures .0);
     }
 
@@ -34,6 +35,7 @@ returns-then-not-pivot c =
       constants = λ _. tt;
       ready = tt;
       counts = q .counts;
+      nodes = tt;
       moved = tt;
     }
 
@@ -46,5 +48,6 @@ returns c =
       constants = λ a. subst AllConst (sym (q .rows)) (const-turned t (c .args .spot .0) (c .args .spot .1) (c .pre .there .0) a);
       ready = search needs;
       counts = q .counts;
+      nodes = c .in-Continue-next .ensures tt .nodes;
       moved = c .in-Continue-next .ensures tt .moved;
     }
