@@ -128,7 +128,6 @@ counted (Err e) = Err e
 abbrev pub solutionOf : Row → List ℤ
 solutionOf r = map (quotBy (r .div)) (r .form)
 
-
 -- ---- what is read of a system
 abbrev pub countsOf : System → Counts
 countsOf S = record { n = S .n; p = S .p; m = length (S .rows); k = length (S .context) }
