@@ -94,6 +94,7 @@ pub fn sign_of(
     requires fuel { ⌜ fuel ≤ 100000 ⌝ }
     ensures value { λ r. ⌜ ((s : Work) (n : ℕ) → KnownAs (now (ctx .entry)) s → signIn s (now (form .entry)) (limits fuel n) count ≡ r) ⌝ }
     ensures kept { λ _. ⌜ SameContext (now (ctx .entry)) (now (ctx .exit)) ⌝ }
+    ensures nodes { λ r. ⌜ made r (λ v. v .1 .nodes ≡ count .nodes) ⌝ }
     ensures stepped { λ r. ⌜ made r (λ v. Stepped fuel count (v .1)) ⌝ }
 {
     if none_below(form) {
@@ -129,6 +130,7 @@ pub fn scan_rows(
     ensures value { λ r. ⌜ ((s : Work) (n : ℕ) → KnownAs (now (ctx .entry)) s → scan (signIn s) (inUse (now (t .entry))) (limits fuel n) start ≡ scannedAt (now (t .entry) .rows) r) ⌝ }
     ensures kept { λ _. ⌜ SameContext (now (ctx .entry)) (now (ctx .exit)) ⌝ }
     ensures inside { λ r. ⌜ made r (λ v. ScanBelow (now (t .entry) .count) (v .0)) ⌝ }
+    ensures nodes { λ r. ⌜ made r (λ v. v .1 .nodes ≡ start .nodes) ⌝ }
     ensures stepped { λ r. ⌜ made r (λ v. Stepped fuel start (v .1)) ⌝ }
 {
     let mut found = Scan::Clear;

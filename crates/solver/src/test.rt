@@ -75,6 +75,7 @@ fn cut_plain(
     ensures constants { λ r. ⌜ made r (λ _. AllConst (inUse (now (t .exit)))) ⌝ }
     ensures ready { λ r. ⌜ made r (λ _. Ready (now (t .exit))) ⌝ }
     ensures counts { λ r. ⌜ made r (λ _. (cuts < 24) × (now (t .exit) .count ≡ now (t .entry) .count + 1) × (now (t .exit) .unknowns ≡ now (t .entry) .unknowns)) ⌝ }
+    ensures nodes { λ r. ⌜ made r (λ c. c .nodes ≡ count .nodes) ⌝ }
     ensures moved { λ r. ⌜ made r (Moved fuel count) ⌝ }
 {
     if cuts >= CUTS {
@@ -96,6 +97,7 @@ pub fn test(ctx: &Context, fuel: u32, start: Count) -> Result<(bool, Count), Ref
     requires within { ⌜ start .steps ≤ fuel ⌝ }
     requires fuel { ⌜ fuel ≤ 100000 ⌝ }
     ensures value { λ r. ⌜ ((n : ℕ) → test (now (ctx .entry) .parameters) (now (ctx .entry) .made) (inForce (now (ctx .entry))) (limits fuel n) start ≡ r) ⌝ }
+    ensures nodes { λ r. ⌜ made r (λ v. v .1 .nodes ≡ start .nodes) ⌝ }
     ensures stepped { λ r. ⌜ made r (λ v. Stepped fuel start (v .1)) ⌝ }
 {
     let mut t = test_table(ctx);
@@ -130,6 +132,7 @@ pub fn test_with(
     requires fuel { ⌜ fuel ≤ 100000 ⌝ }
     ensures value { λ r. ⌜ ((s : Work) (n : ℕ) → KnownAs (now (ctx .entry)) s → testWith s (now (form .entry)) (limits fuel n) count ≡ r) ⌝ }
     ensures kept { λ _. ⌜ SameContext (now (ctx .entry)) (now (ctx .exit)) ⌝ }
+    ensures nodes { λ r. ⌜ made r (λ v. v .1 .nodes ≡ count .nodes) ⌝ }
     ensures stepped { λ r. ⌜ made r (λ v. Stepped fuel count (v .1)) ⌝ }
 {
     let rows = ctx.count;

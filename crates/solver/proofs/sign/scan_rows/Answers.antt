@@ -17,7 +17,7 @@ use Rattle.solver.proofs.sign.scan_rows.Needs as need
 use Rattle.solver.proofs.sign.scan_rows.Needs.{in-NonNegative, in-Unknown}
 
 pub loop-h-holds : need.loop-h-holds
-loop-h-holds c = (same-refl (c .args .ctx .now), tt, stepped-refl (c .args .fuel) (c .args .start) (c .pre .within), tt, λ s n k. refl)
+loop-h-holds c = (same-refl (c .args .ctx .now), tt, stepped-refl (c .args .fuel) (c .args .start) (c .pre .within), tt, λ s n k. refl, refl)
 
 pub sign-of-requires : need.sign-of-requires
 sign-of-requires c κs =
@@ -44,6 +44,7 @@ returns-in-Break-s c =
           ∙ sym (ap (scannedAt (t .rows)) (p .1 ∙ ap Err (p .2)));
       kept = same-trans (c .args .ctx .now) (c .loop-h .ctx) (c .sign-of .last .ctx) (i .0) (c .sign-of .ensures .kept);
       inside = made-from-err _ _ (c .from-residual .ensures .0);
+      nodes = made-from-err _ _ (c .from-residual .ensures .0);
       stepped = made-from-err _ _ (c .from-residual .ensures .0);
     }
 
@@ -59,6 +60,7 @@ returns-in-Negative c =
           ∙ scan-negative (signIn s) (t .rows) (c .loop-h .found) row (drop (h + 1) (inUse t)) (limits (c .args .fuel) n) (c .loop-h .count) (c .in-Continue-s .next) (c .sign-of .ensures .value s n (known-same (c .args .ctx .now) (c .loop-h .ctx) s (i .0) k) ∙ c .in-Continue-s .was tt ∙ ap (λ x. Ok (x, c .in-Continue-s .next)) (c .in-Negative .is));
       kept = same-trans (c .args .ctx .now) (c .loop-h .ctx) (c .sign-of .last .ctx) (i .0) (c .sign-of .ensures .kept);
       inside = c .loop-h-test .taken;
+      nodes = c .in-Continue-s .ensures tt .nodes ∙ i .5;
       stepped = stepped-trans (c .args .fuel) (c .args .start) (c .loop-h .count) (c .in-Continue-s .next) (i .2) (c .in-Continue-s .ensures tt .stepped);
     }
 
@@ -72,6 +74,7 @@ returns c =
           ∙ ap (remembered (t .rows) (c .loop-h .found)) (scan-end (signIn s) (limits (c .args .fuel) n) (c .loop-h .count)) ∙ remembers-end (t .rows) (c .loop-h .found) (c .loop-h .count) (i .3);
       kept = i .0;
       inside = search needs;
+      nodes = i .5;
       stepped = i .2;
     }
 
@@ -83,8 +86,10 @@ loop-h-again c =
     let i = c .loop-h .inv in
     let kept = same-trans (c .args .ctx .now) (c .loop-h .ctx) (c .sign-of .last .ctx) (i .0) (c .sign-of .ensures .kept) in
     let on = stepped-trans (c .args .fuel) (c .args .start) (c .loop-h .count) (c .in-Continue-s .next) (i .2) (c .in-Continue-s .ensures tt .stepped) in
+    let same = c .in-Continue-s .ensures tt .nodes ∙ i .5 in
     let G : Found → Type 0 = λ f. SameContext (c .args .ctx .now) (c .sign-of .last .ctx) × ScanBelow (h + 1) f × Stepped (c .args .fuel) (c .args .start) (c .in-Continue-s .next) × NotYet f
-    × ((s : Work) (n : ℕ) → KnownAs (c .args .ctx .now) s → scan (signIn s) (inUse t) (limits (c .args .fuel) n) (c .args .start) ≡ remembered (t .rows) f (scan (signIn s) (drop (h + 1) (inUse t)) (limits (c .args .fuel) n) (c .in-Continue-s .next))) in
+    × ((s : Work) (n : ℕ) → KnownAs (c .args .ctx .now) s → scan (signIn s) (inUse t) (limits (c .args .fuel) n) (c .args .start) ≡ remembered (t .rows) f (scan (signIn s) (drop (h + 1) (inUse t)) (limits (c .args .fuel) n) (c .in-Continue-s .next)))
+    × (c .in-Continue-s .next .nodes ≡ c .args .start .nodes) in
     elim (c .match-s .came) [
       | in-NonNegative w ↦
           subst G (sym (w .found-is)) (
@@ -95,6 +100,7 @@ loop-h-again c =
             λ s n k.
                 i .4 s n k ∙ used-more (λ rs. remembered (t .rows) (c .loop-h .found) (scan (signIn s) rs (limits (c .args .fuel) n) (c .loop-h .count))) t h (c .loop-h-test .taken) (search needs)
                 ∙ scan-nonnegative (signIn s) (t .rows) (c .loop-h .found) row (drop (h + 1) (inUse t)) (limits (c .args .fuel) n) (c .loop-h .count) (c .in-Continue-s .next) (c .sign-of .ensures .value s n (known-same (c .args .ctx .now) (c .loop-h .ctx) s (i .0) k) ∙ c .in-Continue-s .was tt ∙ ap (λ x. Ok (x, c .in-Continue-s .next)) (w .in-NonNegative .is)),
+            same,
           )
       | in-Unknown w ↦
           subst G (sym (w .found-is ∙ w .first-unsure-found .ensures .value)) (
@@ -105,5 +111,6 @@ loop-h-again c =
             λ s n k.
                 i .4 s n k ∙ used-more (λ rs. remembered (t .rows) (c .loop-h .found) (scan (signIn s) rs (limits (c .args .fuel) n) (c .loop-h .count))) t h (c .loop-h-test .taken) (search needs)
                 ∙ scan-unknown (signIn s) (t .rows) (c .loop-h .found) row (drop (h + 1) (inUse t)) (limits (c .args .fuel) n) (c .loop-h .count) (c .in-Continue-s .next) h refl (i .3) (c .sign-of .ensures .value s n (known-same (c .args .ctx .now) (c .loop-h .ctx) s (i .0) k) ∙ c .in-Continue-s .was tt ∙ ap (λ x. Ok (x, c .in-Continue-s .next)) (w .in-Unknown .is)),
+            same,
           )
     ]

@@ -13,3 +13,4 @@ abbrev pub Inv-loop-h : given.InvT-loop-h
 Inv-loop-h l =
     SameContext (l .entry .ctx) (l .ctx) × ScanBelow (l .h) (l .found) × Stepped (l .fuel) (l .entry .count) (l .count) × NotYet (l .found)
     × ((s : Work) (n : ℕ) → KnownAs (l .entry .ctx) s → scan (signIn s) (inUse (l .t)) (limits (l .fuel) n) (l .entry .count) ≡ remembered (l .t .rows) (l .found) (scan (signIn s) (drop (l .h) (inUse (l .t))) (limits (l .fuel) n) (l .count)))
+    × (l .count .nodes ≡ l .entry .count .nodes)

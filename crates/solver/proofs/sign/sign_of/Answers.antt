@@ -1,5 +1,5 @@
 use borrow.Author.Needs.{needs}
-use mathlib.Core.Path.{_≡_, sym, ap, _∙_}
+use mathlib.Core.Path.{_≡_, refl, sym, ap, _∙_}
 use native.Mathlib.Omega.{arith}
 use Rattle.std.proofs.shelf.Results.{err-from-errBy, made-from-err}
 use Rattle.std.specs.declared.result.Result.the-variants.{Ok, Err}
@@ -17,6 +17,7 @@ returns-then-none-below c =
     record {
       value = λ s n k. sign-nonnegative s (c .args .form .now) (limits (c .args .fuel) n) (c .args .count) (sym (c .if-none-below .ensures tt .value));
       kept = same-refl (c .args .ctx .now);
+      nodes = refl;
       stepped = stepped-refl (c .args .fuel) (c .args .count) (c .pre .within);
     }
 
@@ -25,6 +26,7 @@ returns-then-plainly-negative c =
     record {
       value = λ s n k. sign-negative s (c .args .form .now) (limits (c .args .fuel) n) (c .args .count) (sym (c .if-none-below .ensures tt .value)) (sym (c .if-plainly-negative .ensures tt .value));
       kept = same-refl (c .args .ctx .now);
+      nodes = refl;
       stepped = stepped-refl (c .args .fuel) (c .args .count) (c .pre .within);
     }
 
@@ -38,6 +40,7 @@ returns-in-Break-below c =
           (ap (λ C. testWith s C (limits (c .args .fuel) n) (c .args .count)) (sym o) ∙ c .test-with .ensures .value s n k ∙ c .in-Break-below .was tt)
           ∙ sym (p .1 ∙ ap Err (p .2));
       kept = c .test-with .ensures .kept;
+      nodes = made-from-err _ _ (c .from-residual .ensures .0);
       stepped = made-from-err _ _ (c .from-residual .ensures .0);
     }
 
@@ -46,6 +49,7 @@ returns-then-not-below c =
     record {
       value = λ s n k. sign-not-below s (c .args .form .now) (limits (c .args .fuel) n) (c .args .count) (sym (c .if-none-below .ensures tt .value)) (sym (c .if-plainly-negative .ensures tt .value)) (c .in-Continue-below .count) (ap (λ C. testWith s C (limits (c .args .fuel) n) (c .args .count)) (sym (c .opposite .ensures)) ∙ c .test-with .ensures .value s n k ∙ c .in-Continue-below .was tt ∙ ap (λ b. Ok (b, c .in-Continue-below .count)) (c .if-not-below .taken));
       kept = c .test-with .ensures .kept;
+      nodes = c .in-Continue-below .ensures tt .nodes;
       stepped = c .in-Continue-below .ensures tt .stepped;
     }
 
@@ -67,6 +71,7 @@ returns-in-Break-above c =
           sign-second s (c .args .form .now) (limits (c .args .fuel) n) (c .args .count) (sym (c .if-none-below .ensures tt .value)) (sym (c .if-plainly-negative .ensures tt .value)) (c .in-Continue-below .count) (ap (λ C. testWith s C (limits (c .args .fuel) n) (c .args .count)) (sym (c .opposite .ensures)) ∙ c .test-with .ensures .value s n k ∙ c .in-Continue-below .was tt ∙ ap (λ b. Ok (b, c .in-Continue-below .count)) (c .if-not-below .left)) (Err (c .in-Break-above .field-0 .0)) (c .test-with-2 .ensures .value s n (known-same (c .args .ctx .now) (c .test-with .last .ctx) s (c .test-with .ensures .kept) k) ∙ c .in-Break-above .was tt)
           ∙ sym (p .1 ∙ ap Err (p .2));
       kept = same-trans (c .args .ctx .now) (c .test-with .last .ctx) (c .test-with-2 .last .ctx) (c .test-with .ensures .kept) (c .test-with-2 .ensures .kept);
+      nodes = made-from-err _ _ (c .from-residual-in-Break-above .ensures .0);
       stepped = made-from-err _ _ (c .from-residual-in-Break-above .ensures .0);
     }
 
@@ -77,6 +82,7 @@ returns-then-above c =
           sign-second s (c .args .form .now) (limits (c .args .fuel) n) (c .args .count) (sym (c .if-none-below .ensures tt .value)) (sym (c .if-plainly-negative .ensures tt .value)) (c .in-Continue-below .count) (ap (λ C. testWith s C (limits (c .args .fuel) n) (c .args .count)) (sym (c .opposite .ensures)) ∙ c .test-with .ensures .value s n k ∙ c .in-Continue-below .was tt ∙ ap (λ b. Ok (b, c .in-Continue-below .count)) (c .if-not-below .left)) (Ok (c .in-Continue-above .above, c .in-Continue-above .count)) (c .test-with-2 .ensures .value s n (known-same (c .args .ctx .now) (c .test-with .last .ctx) s (c .test-with .ensures .kept) k) ∙ c .in-Continue-above .was tt)
           ∙ above-done (limits (c .args .fuel) n) (c .in-Continue-above .count) (c .in-Continue-above .above) ∙ ap (λ b. Ok (cond b Unknown Negative, c .in-Continue-above .count)) (c .if-above .taken);
       kept = same-trans (c .args .ctx .now) (c .test-with .last .ctx) (c .test-with-2 .last .ctx) (c .test-with .ensures .kept) (c .test-with-2 .ensures .kept);
+      nodes = c .in-Continue-above .ensures tt .nodes ∙ c .in-Continue-below .ensures tt .nodes;
       stepped = stepped-trans (c .args .fuel) (c .args .count) (c .in-Continue-below .count) (c .in-Continue-above .count) (c .in-Continue-below .ensures tt .stepped) (c .in-Continue-above .ensures tt .stepped);
     }
 
@@ -87,5 +93,6 @@ returns-else-above c =
           sign-second s (c .args .form .now) (limits (c .args .fuel) n) (c .args .count) (sym (c .if-none-below .ensures tt .value)) (sym (c .if-plainly-negative .ensures tt .value)) (c .in-Continue-below .count) (ap (λ C. testWith s C (limits (c .args .fuel) n) (c .args .count)) (sym (c .opposite .ensures)) ∙ c .test-with .ensures .value s n k ∙ c .in-Continue-below .was tt ∙ ap (λ b. Ok (b, c .in-Continue-below .count)) (c .if-not-below .left)) (Ok (c .in-Continue-above .above, c .in-Continue-above .count)) (c .test-with-2 .ensures .value s n (known-same (c .args .ctx .now) (c .test-with .last .ctx) s (c .test-with .ensures .kept) k) ∙ c .in-Continue-above .was tt)
           ∙ above-done (limits (c .args .fuel) n) (c .in-Continue-above .count) (c .in-Continue-above .above) ∙ ap (λ b. Ok (cond b Unknown Negative, c .in-Continue-above .count)) (c .if-above .left);
       kept = same-trans (c .args .ctx .now) (c .test-with .last .ctx) (c .test-with-2 .last .ctx) (c .test-with .ensures .kept) (c .test-with-2 .ensures .kept);
+      nodes = c .in-Continue-above .ensures tt .nodes ∙ c .in-Continue-below .ensures tt .nodes;
       stepped = stepped-trans (c .args .fuel) (c .args .count) (c .in-Continue-below .count) (c .in-Continue-above .count) (c .in-Continue-below .ensures tt .stepped) (c .in-Continue-above .ensures tt .stepped);
     }

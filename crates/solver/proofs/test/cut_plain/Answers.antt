@@ -34,6 +34,7 @@ returns-then-cuts-ge-CUTS c =
       constants = tt;
       ready = tt;
       counts = tt;
+      nodes = tt;
       moved = tt;
     }
 
@@ -53,6 +54,7 @@ returns-in-Break-count c =
       constants = made-from-err _ _ (c .from-residual .ensures .0);
       ready = made-from-err _ _ (c .from-residual .ensures .0);
       counts = made-from-err _ _ (c .from-residual .ensures .0);
+      nodes = made-from-err _ _ (c .from-residual .ensures .0);
       moved = made-from-err _ _ (c .from-residual .ensures .0);
     }
 
@@ -72,5 +74,6 @@ returns c =
       constants = c .add-row .ensures .constants (c .pre .constants) (subst ConstForm (sym e) (const-cut-row row k));
       ready = search needs;
       counts = search needs;
+      nodes = search needs;
       moved = search needs;
     }

@@ -1,5 +1,5 @@
 use borrow.Author.Needs.{needs}
-use mathlib.Core.Path.{_≡_, sym, ap, subst, _∙_}
+use mathlib.Core.Path.{_≡_, refl, sym, ap, subst, _∙_}
 use mathlib.Core.List.{map}
 use native.Mathlib.Omega.{arith}
 use native.Mathlib.Numerals.{add-one}
@@ -28,6 +28,7 @@ loop-i-holds c =
       record { more = omega arith; within = c .pre .within },
       subst AllConst (sym (q .rows)) (const-join _ _ (const-units 0 (x .parameters + x .made)) (const-tests (x .parameters) (x .made) (inForce x))),
       (100_001, omega (arith, c .pre .fuel), λ n. ap (λ w. settle testing 100_001 w (limits (c .args .fuel) n) (c .args .start)) (test-begins x t (q .counts .1) (q .ready .inside) (q .rows))),
+      refl,
     )
 
 pub returns-in-Break-count : need.returns-in-Break-count
@@ -45,6 +46,7 @@ returns-in-Break-count c =
           (c .turn .ensures .value (testOf t (c .loop-i .cuts)) n ∙ ap (moved (c .turn .last .t) (testOf t (c .loop-i .cuts))) (c .in-Break-count .was tt)))
           ∙ i .5 .2 n)
           ∙ sym (p .1 ∙ ap Err (p .2));
+      nodes = made-from-err _ _ (c .from-residual .ensures .0);
       stepped = made-from-err _ _ (c .from-residual .ensures .0);
     }
 
@@ -68,6 +70,7 @@ loop-i-again-in-Some-pivot-place c =
             (Ok (testOf (c .turn .last .t) (c .loop-i .cuts), c .in-Continue-count .count)) (q .value (testOf t (c .loop-i .cuts)) n))
             ∙ i .5 .2 n,
       ),
+      q .nodes ∙ i .6,
     )
 
 pub returns-in-None : need.returns-in-None
@@ -81,6 +84,7 @@ returns-in-None c =
       value = λ n.
           test-from (x .parameters) (x .made) (inForce x) (limits (c .args .fuel) n) (c .args .start) (Ok (none, c .loop-i .count))
           (sym (none-on (i .5 .0) t (c .loop-i .cuts) (i .0 .inside) (limits (c .args .fuel) n) (c .loop-i .count) (g .0) (g .1) (c .in-Some .i) (c .in-Some .ensures tt .inside) (c .in-Some .ensures tt .value) (c .in-None .ensures tt .value)) ∙ i .5 .2 n);
+      nodes = i .6;
       stepped = i .3;
     }
 
@@ -99,6 +103,7 @@ returns-in-Break-count-2 c =
           (c .cut-plain .ensures .value (settle testing (g .0)) n ∙ ap (λ r. next (tested (c .cut-plain .last .t) (suc (c .loop-i .cuts)) r) (settle testing (g .0)) (limits (c .args .fuel) n)) (c .in-Break-count-2 .was tt)))
           ∙ i .5 .2 n)
           ∙ sym (p .1 ∙ ap Err (p .2));
+      nodes = made-from-err _ _ (c .from-residual-in-Break-count-2 .ensures .0);
       stepped = made-from-err _ _ (c .from-residual-in-Break-count-2 .ensures .0);
     }
 
@@ -113,6 +118,7 @@ returns-in-None-first-fraction c =
       value = λ n.
           test-from (x .parameters) (x .made) (inForce x) (limits (c .args .fuel) n) (c .args .start) (Ok (leaf (map (λ r. map (quotBy (r .div)) (r .form)) (top t)), c .loop-i .count))
           (sym (leaf-on (i .5 .0) t (c .loop-i .cuts) (i .0 .inside) (limits (c .args .fuel) n) (c .loop-i .count) (g .0) (g .1) (c .in-rest .ensures tt .value) (c .in-None-first-fraction .ensures tt .value)) ∙ i .5 .2 n);
+      nodes = i .6;
       stepped = i .3;
     }
 
@@ -138,4 +144,5 @@ loop-i-again c =
             (Ok (testOf u (suc (c .loop-i .cuts)), c .in-Continue-count-2 .count)) (q .value (settle testing (g .0)) n))
             ∙ i .5 .2 n,
       ),
+      q .nodes ∙ i .6,
     )

@@ -11,6 +11,7 @@ abbrev pub Inv-loop-i : given.InvT-loop-i
 Inv-loop-i l =
     Ready (l .t) × (l .cuts ≤ 24) × (l .t .count ≤ 40 + l .cuts) × Stepped (l .fuel) (l .entry .count) (l .count) × AllConst (inUse (l .t))
     × ((gas : ℕ) × (l .fuel < gas + l .count .steps) × ((n : ℕ) → settle testing gas (testOf (l .t) (l .cuts)) (limits (l .fuel) n) (l .count) ≡ settle testing 100_001 (testWork (l .ctx .parameters) (l .ctx .made) (inForce (l .ctx))) (limits (l .fuel) n) (l .entry .count)))
+    × (l .count .nodes ≡ l .entry .count .nodes)
 
 abbrev pub μ-loop-i : given.MeasureT-loop-i
 μ-loop-i l = l .fuel - l .count .steps

@@ -14,6 +14,7 @@ returns-then-not-join c =
     record {
       value = λ s n k. with-row-out s (c .args .form .now) (limits (c .args .fuel) n) (c .args .count) (sym (j .answer)) ∙ ap (λ m. Err (Range m)) (sym (c .met .ensures));
       kept = record { count = j .counts .0; rows = j .rows; parameters = j .counts .1; made = j .counts .2 };
+      nodes = tt;
       stepped = tt;
     }
 
@@ -33,5 +34,6 @@ returns c =
             parameters = d .counts .1 ∙ j .counts .1;
             made = d .counts .2 ∙ j .counts .2;
           };
+      nodes = search needs;
       stepped = search needs;
     }
