@@ -4,7 +4,7 @@ use native.Mathlib.Numerals.{add-one}
 use mathlib.Core.Path.{_≡_, refl, sym, ap, subst, _∙_}
 use mathlib.Core.List.{List, [], _∷_, _++_, map}
 use lib.IntN.{ℤ}
-use lib.ListN.{getD, length}
+use lib.ListN.{getD, length, length-append}
 use Rattle.std.specs.declared.option.Option.the-variants.{Some, None}
 use Rattle.std.specs.declared.result.Result.{Result}
 use Rattle.std.specs.declared.result.Result.the-variants.{Ok, Err}
@@ -22,25 +22,17 @@ use Rattle.solver.specs.declared.sign.Scan.the-variants.{Negative, Unsure, Cle
 use Rattle.solver.specs.declared.state.State.{State}
 use Rattle.solver.specs.declared.context.Context.{Context}
 use Rattle.solver.specs.Bounds.{SameContext, inForce}
-use Rattle.solver.specs.Ends.{News, Noted, below-all, below-new, ended, worked}
+use Rattle.solver.specs.Ends.{News, Noted, below-all, below-new, ended, newNodes, worked}
 use Rattle.solver.specs.Runs.{Limits, Outcome, Run, next, _>>=_}
 use Rattle.solver.specs.Rules.{Work, act, cut, finish, fraction, lift, scan, settle, signIn, solving, turn}
 use Rattle.std.specs.Vec.{made}
 use Rattle.tree.specs.declared.node.Node.{Node as TreeNode}
 use Rattle.tree.specs.declared.node.Node.the-variants.{New}
-use Rattle.solver.proofs.Writing.{noted-from, wrote-none}
+use Rattle.solver.proofs.Writing.{noted-from, wrote-none, wrote-trans}
 use native.Mathlib.Omega.{arith}
-use Rattle.solver.specs.Ties.{Wrote, notedIn, afterCut, moved, rest, scanAt, scannedAt, workOf}
+use Rattle.solver.specs.Ties.{KnownAs, Wrote, withTable, notedIn, afterCut, moved, rest, scanAt, scannedAt, workOf}
 use Rattle.solver.proofs.Testing.{frac-none, fraction-at, settle-is}
 use Rattle.solver.proofs.Turning.{both-used, place-none, place-some}
-
-pub below-more : (ns : News) (d : ℤ) (T : List ℤ) (o : Outcome Tree) → below-all ns (below-new d T o) ≡ below-all (ns ++ (d, T) ∷ []) o
-below-more [] d T o = refl
-below-more (n ∷ ns) d T o = ap (below-new (n .0) (n .1)) (below-more ns d T o)
-
-pub below-refused : (ns : News) (e : Refusal) → below-all ns (Err e) ≡ Err e
-below-refused [] e = refl
-below-refused (n ∷ ns) e = ap (below-new (n .0) (n .1)) (below-refused ns e)
 
 -- the work after a cut
 pub worked-after : (x : State) (y : Context) (t : Table) (r : Result Count Refusal) → moved t (afterCut (workOf x) (inForce y) (y .made)) r ≡ worked (record { table = t; context = record { forms = y .forms; count = y .count; parameters = x .context .parameters; made = y .made }; cuts = x .cuts + 1; left = x .left }) r
@@ -64,9 +56,40 @@ pub noted-none : (before : List TreeNode) (from : Count) (r : Result Count Refus
 noted-none before from (Ok c) m = λ h. (wrote-none before (from .nodes), omega (arith, m), omega (arith, m))
 noted-none before from (Err x) m = tt
 
+pub noted-on : (before after : List TreeNode) (from c d : Count) (ns : News) → Noted before from ns after (Ok c) → d .nodes ≡ c .nodes → Noted before from ns after (Ok d)
+noted-on before after from c d ns n e = λ h. let q = n h in (q .0, omega (arith, e, q .1), omega (arith, e, q .2))
+
+nodes-join : (ns ms : News) → newNodes (ns ++ ms) ≡ newNodes ns ++ newNodes ms
+nodes-join [] ms = refl
+nodes-join (n ∷ ns) ms = ap (λ xs. New (n .0) (n .1) ∷ xs) (nodes-join ns ms)
+
+nodes-length : (ns : News) → length (newNodes ns) ≡ length ns
+nodes-length [] = refl
+nodes-length (n ∷ ns) = ap suc (nodes-length ns)
+
+-- nodes of new parameters, and then those of others
+pub noted-join : (before mid after : List TreeNode) (from c d : Count) (ns ms : News) → length mid ≡ length before → Noted before from ns mid (Ok c) → Noted mid c ms after (Ok d) → Noted before from (ns ++ ms) after (Ok d)
+noted-join before mid after from c d ns ms e n m = λ h.
+    let q = n h in
+    let v = m (omega (arith, e, q .2)) in
+    let k = nodes-length ns in
+    let at : c .nodes ≡ from .nodes + length (newNodes ns) = omega (arith, k, q .1) in
+    let long = length-append ns ms in
+    (subst (λ xs. Wrote before (from .nodes) xs after) (sym (nodes-join ns ms)) (wrote-trans before (from .nodes) (newNodes ns) mid (omega (arith, at, q .2)) (q .0) (newNodes ms) after (subst (λ a. Wrote mid a (newNodes ms) after) at (v .0))), omega (arith, long, q .1, v .1), omega (arith, e, v .2))
+
+pub below-join : (ns ms : News) (o : Outcome Tree) → below-all ns (below-all ms o) ≡ below-all (ns ++ ms) o
+below-join [] ms o = refl
+below-join (n ∷ ns) ms o = ap (below-new (n .0) (n .1)) (below-join ns ms o)
+
 -- signs leave the work as it is
 pub work-same : (x : State) (y : Context) → SameContext (x .context) y → workOf (record { table = x .table; context = y; cuts = x .cuts; left = x .left }) ≡ workOf x
 work-same x y e = λ k. record { top = top (x .table); rest = rest (x .table); context = e .rows k; parameters = e .parameters k; made = e .made k; cuts = x .cuts }
+
+pub work-turned : (x : State) (y : Context) (t : Table) → SameContext (x .context) y → workOf (record { table = t; context = y; cuts = x .cuts; left = x .left }) ≡ withTable t (workOf x)
+work-turned x y t e = λ k. record { top = top t; rest = rest t; context = e .rows k; parameters = e .parameters k; made = e .made k; cuts = x .cuts }
+
+pub work-known : (x : State) → KnownAs (x .context) (workOf x)
+work-known x = record { context = refl; parameters = refl; made = refl }
 
 module _ (splits : Work → List ℤ → Run Tree) (gas g : ℕ) (some : gas ≡ suc g) (x : State) (inside : x .table .unknowns ≤ x .table .count) (l : Limits) (c : Count) (r : Result (Found × Count) Refusal) (scans : scan (signIn (workOf x)) (inUse (x .table)) l c ≡ scannedAt (x .table .rows) r) where
   t : Table

@@ -209,6 +209,7 @@ pub fn settle(
     requires ready { ⌜ StateReady (now state) ⌝ }
     requires within { ⌜ start .steps ≤ fuel ⌝ }
     requires fuel { ⌜ fuel ≤ 100000 ⌝ }
+    ensures value { λ r. ⌜ ((news : News) × Noted (now (work .entry)) start news (now (work .exit)) (countOf r) × ((splits : Work → List ℤ → Run Tree) → settle (solving splits) 100_001 (workOf (now (state .entry))) (limits fuel (length (now (work .entry)))) start ≡ below-all news (finishing splits (now (state .exit)) (limits fuel (length (now (work .entry)))) r))) ⌝ }
     ensures ready { λ r. ⌜ made r (λ _. StateReady (now (state .exit))) ⌝ }
     ensures left { λ _. ⌜ now (state .exit) .left ≡ now (state .entry) .left ⌝ }
     ensures inside { λ r. ⌜ made r (λ v. EndBelow (now (state .exit) .table .count) (v .0)) ⌝ }
