@@ -7,4 +7,5 @@ pub mod Cutting
 pub mod Signing
 pub mod Writing
 pub mod Settling
+pub mod Planting
 pub mod Reading

@@ -59,11 +59,11 @@ noted-none before from (Err x) m = tt
 pub noted-on : (before after : List TreeNode) (from c d : Count) (ns : News) → Noted before from ns after (Ok c) → d .nodes ≡ c .nodes → Noted before from ns after (Ok d)
 noted-on before after from c d ns n e = λ h. let q = n h in (q .0, omega (arith, e, q .1), omega (arith, e, q .2))
 
-nodes-join : (ns ms : News) → newNodes (ns ++ ms) ≡ newNodes ns ++ newNodes ms
+pub nodes-join : (ns ms : News) → newNodes (ns ++ ms) ≡ newNodes ns ++ newNodes ms
 nodes-join [] ms = refl
 nodes-join (n ∷ ns) ms = ap (λ xs. New (n .0) (n .1) ∷ xs) (nodes-join ns ms)
 
-nodes-length : (ns : News) → length (newNodes ns) ≡ length ns
+pub nodes-length : (ns : News) → length (newNodes ns) ≡ length ns
 nodes-length [] = refl
 nodes-length (n ∷ ns) = ap suc (nodes-length ns)
 

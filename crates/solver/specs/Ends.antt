@@ -3,14 +3,14 @@ use mathlib.Core.Path.{_≡_}
 use mathlib.Core.Bool.{true, false, _&&_}
 use mathlib.Core.Logic.{_⊎_}
 use mathlib.Core.List.{List, [], _∷_, _++_, map}
-use Prim.Native.Nat.{ℕ, suc, _+_, _≤_}
+use Prim.Native.Nat.{ℕ, zero, suc, _+_, _≤_}
 use lib.IntN.{ℤ}
 use lib.ListN.{getD, length}
 use Rattle.std.specs.declared.result.Result.{Result}
 use Rattle.std.specs.declared.result.Result.the-variants.{Ok, Err}
 use Rattle.base.specs.declared.refusal.Place.the-variants.{Node}
 use Rattle.base.specs.declared.refusal.Refusal.{Refusal}
-use Rattle.base.specs.declared.refusal.Refusal.the-variants.{Range}
+use Rattle.base.specs.declared.refusal.Refusal.the-variants.{Depth, Range}
 use Rattle.base.specs.Numbers.{quotBy, within}
 use Rattle.tableau.specs.declared.cut.Cut.{Cut}
 use Rattle.tableau.specs.Cuts.{lower, upper}
@@ -18,14 +18,14 @@ use Rattle.tableau.specs.declared.table.Table.{Table}
 use Rattle.tableau.specs.Tables.{noRow}
 use Rattle.tree.specs.declared.node.Node.{Node as TreeNode}
 use Rattle.tree.specs.declared.node.Node.the-variants.{New}
-use Rattle.tree.specs.Trees.{Tree, leaf, new, none}
+use Rattle.tree.specs.Trees.{Tree, leaf, new, nodes, none}
 use Rattle.solver.specs.declared.count.Count.{Count}
 use Rattle.solver.specs.declared.state.State.{State}
 use Rattle.solver.specs.declared.settle.End.{End}
 use Rattle.solver.specs.declared.settle.End.the-variants.{Leaf, None, Split}
 use Rattle.solver.specs.Bounds.{inForce}
-use Rattle.solver.specs.Runs.{Limits, Outcome, Run, metAt, return, _>>_, write}
-use Rattle.solver.specs.Rules.{Work}
+use Rattle.solver.specs.Runs.{Limits, Outcome, Run, bar, metAt, return, _>>_, write}
+use Rattle.solver.specs.Rules.{Work, branches, node}
 use Rattle.solver.specs.Ties.{Wrote, notedIn, workOf}
 
 -- d and T of each new parameter, the first made first
@@ -78,3 +78,14 @@ finishing splits x l (Err e) = Err e
 abbrev pub countOf : Result (End × Count) Refusal → Result Count Refusal
 countOf (Ok v) = Ok (v .1)
 countOf (Err e) = Err e
+
+-- what a split does where so many splits may still stand one below the other
+abbrev pub splitting : ℕ → Work → List ℤ → Run Tree
+splitting zero s C = bar Depth Node
+splitting (suc left) s C = branches (node left) s C
+
+-- the tree that the rules make is made: its nodes, and no others, were written, if the table was not overfull before; or the same refusal
+abbrev pub Planted : List TreeNode → Count → List TreeNode → Result Count Refusal → Outcome Tree → Type 0
+Planted before from after (Ok c) o =
+    (t : Tree) × (o ≡ Ok (t, c)) × (from .nodes ≤ length before → Wrote before (from .nodes) (nodes t) after × (c .nodes ≡ from .nodes + length (nodes t)) × (c .nodes ≤ length before))
+Planted before from after (Err e) o = o ≡ Err e
