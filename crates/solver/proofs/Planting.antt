@@ -1,5 +1,5 @@
 -- Trees and the nodes that they are written in, from the ends of the work at a node up to the splits.
-use Prim.Native.Nat.{ℕ, zero, suc, _+_, _≤_}
+use Prim.Native.Nat.{ℕ, zero, suc, _+_, _<_, _≤_}
 use mathlib.Core.Bool.{Bool, true, false, cond}
 use mathlib.Core.Path.{_≡_, refl, sym, ap, subst, _∙_}
 use mathlib.Core.List.{List, [], _∷_, _++_}
@@ -52,19 +52,21 @@ nodes-below (n ∷ ns) t = ap (λ xs. New (n .0) (n .1) ∷ xs) (nodes-below ns 
 
 -- what was written so far, and then the tree
 pub planted-below : (before mid after : List TreeNode) (from c : Count) (ns : News) (r : Result Count Refusal) (o : Outcome Tree) → length mid ≡ length before → Noted before from ns mid (Ok c) → Planted mid c after r o → Planted before from after r (below-all ns o)
-planted-below before mid after from c ns (Ok d) o e n q =
-    ( treeBelow ns (q .0)
-    , ap (below-all ns) (q .1) ∙ below-made ns (q .0) d
-    , λ h.
-        let a = n h in
-        let v = q .2 (omega (arith, e, a .2)) in
-        let k = nodes-length ns in
-        let at : c .nodes ≡ from .nodes + length (newNodes ns) = omega (arith, k, a .1) in
-        let b = nodes-below ns (q .0) in
-        let j : length (nodes (treeBelow ns (q .0))) ≡ length (newNodes ns) + length (nodes (q .0)) = ap length b ∙ length-append (newNodes ns) (nodes (q .0)) in
-        ( subst (λ xs. Wrote before (from .nodes) xs after) (sym b) (wrote-trans before (from .nodes) (newNodes ns) mid (omega (arith, at, a .2)) (a .0) (nodes (q .0)) after (subst (λ m. Wrote mid m (nodes (q .0)) after) at (v .0)))
-        , omega (arith, j, at, v .1)
-        , omega (arith, e, v .2) ) )
+planted-below before mid after from c ns (Ok d) o e n q = (
+  treeBelow ns (q .0),
+  ap (below-all ns) (q .1) ∙ below-made ns (q .0) d,
+  λ h.
+      let a = n h in
+      let v = q .2 (omega (arith, e, a .2)) in
+      let k = nodes-length ns in
+      let at : c .nodes ≡ from .nodes + length (newNodes ns) = omega (arith, k, a .1) in
+      let b = nodes-below ns (q .0) in
+      let j : length (nodes (treeBelow ns (q .0))) ≡ length (newNodes ns) + length (nodes (q .0)) = ap length b ∙ length-append (newNodes ns) (nodes (q .0)) in (
+        subst (λ xs. Wrote before (from .nodes) xs after) (sym b) (wrote-trans before (from .nodes) (newNodes ns) mid (omega (arith, at, a .2)) (a .0) (nodes (q .0)) after (subst (λ m. Wrote mid m (nodes (q .0)) after) at (v .0))),
+        omega (arith, j, at, v .1),
+        omega (arith, e, v .2),
+      ),
+)
 planted-below before mid after from c ns (Err x) o e n q = ap (below-all ns) q ∙ below-refused ns x
 
 -- a tree of one node
@@ -73,10 +75,11 @@ unfolding return
 planted-end before after fuel c t v (Ok d) e n w =
     let p = noted-from (length before) c d n in
     let q = ap (λ x. x .nodes) (p .1) in
-    let k = ap length e in
-    ( t
-    , write-made (return t) (limits fuel (length before)) c d n
-    , λ h. (subst (λ xs. Wrote before (c .nodes) xs after) (sym e) w, omega (arith, q, k), omega (arith, q, p .0)) )
+    let k = ap length e in (
+      t,
+      write-made (return t) (limits fuel (length before)) c d n,
+      λ h. (subst (λ xs. Wrote before (c .nodes) xs after) (sym e) w, omega (arith, q, k), omega (arith, q, p .0)),
+    )
 planted-end before after fuel c t v (Err x) e n w = write-refused (return t) (limits fuel (length before)) c x n
 
 -- ---- splits
@@ -137,3 +140,29 @@ module _ (left : ℕ) (s : Work) (C : List ℤ) (fuel room : ℕ) (c : Count) wh
         pub split-both : within (opposite C) ≡ true → (u : Tree) (m : Count) → node left (where-form s (opposite C)) (limits fuel room) k ≡ Ok (u, m) → splitting (suc left) s C (limits fuel room) c ≡ Ok (split C t u, m)
         unfolding return
         split-both h u m q = after-first ∙ ap (λ o. next o (λ u. return (split C t u)) (limits fuel room)) (branch-in left s (opposite C) fuel room k h ∙ q)
+
+pub some-left : (n : ℕ) → 0 < n → (m : ℕ) × (n ≡ suc m)
+some-left zero h = absurd (let no : ⊥ = omega arith in no)
+some-left (suc n) h = (n, refl)
+
+-- the node of the split, then the two trees
+pub planted-split : (before w₁ w₂ after : List TreeNode) (left : ℕ) (s : Work) (C : List ℤ) (fuel : ℕ) (c d f k : Count) (r : Result Count Refusal) → length w₁ ≡ length before → length w₂ ≡ length before → ticked Node fuel c ≡ Ok d → d .nodes ≡ c .nodes → Ok f ≡ notedIn (length before) d → Wrote before (d .nodes) (Split C ∷ []) w₁ → within C ≡ true → Planted w₁ f w₂ (Ok k) (node left (where-form s C) (limits fuel (length before)) f) → within (opposite C) ≡ true → Planted w₂ k after r (node left (where-form s (opposite C)) (limits fuel (length before)) k) → Planted before c after r (splitting (suc left) s C (limits fuel (length before)) c)
+planted-split before w₁ w₂ after left s C fuel c d f k (Ok m) long₁ long₂ tick same wr w inside p inside₂ q = (
+  split C (p .0) (q .0),
+  split-both left s C fuel (length before) c d tick f wr inside (p .0) k (p .1) inside₂ (q .0) m (q .1),
+  λ h.
+      let n = noted-from (length before) d f wr in
+      let one : f .nodes ≡ suc (d .nodes) = ap (λ x. x .nodes) (n .1) in
+      let a = p .2 (omega (arith, one, n .0, long₁)) in
+      let b = q .2 (omega (arith, a .2, long₁, long₂)) in
+      let e₁ : f .nodes ≡ c .nodes + 1 = omega (arith, one, same) in
+      let e₂ : k .nodes ≡ c .nodes + length (Split C ∷ nodes (p .0)) = omega (arith, e₁, a .1) in
+      let t₁ : Wrote before (c .nodes) (Split C ∷ nodes (p .0)) w₂ = wrote-trans before (c .nodes) (Split C ∷ []) w₁ (omega (arith, n .0, same)) (subst (λ i. Wrote before i (Split C ∷ []) w₁) same w) (nodes (p .0)) w₂ (subst (λ i. Wrote w₁ i (nodes (p .0)) w₂) e₁ (a .0)) in
+      let j = length-append (nodes (p .0)) (nodes (q .0)) in (
+        wrote-trans before (c .nodes) (Split C ∷ nodes (p .0)) w₂ (omega (arith, e₂, a .2, long₁)) t₁ (nodes (q .0)) after (subst (λ i. Wrote w₂ i (nodes (q .0)) after) e₂ (b .0)),
+        omega (arith, j, e₁, a .1, b .1),
+        omega (arith, b .2, long₂),
+      ),
+)
+planted-split before w₁ w₂ after left s C fuel c d f k (Err x) long₁ long₂ tick same wr w inside p inside₂ q =
+    split-second left s C fuel (length before) c d tick f wr inside (p .0) k (p .1) inside₂ x q

@@ -2,14 +2,18 @@
 ghost use mathlib.Core.Path.{_≡_};
 ghost use mathlib.Core.Bool.{true};
 ghost use mathlib.Core.List.{map};
-ghost use Prim.Native.Nat.{_<_, _≤_};
+ghost use Prim.Native.Nat.{suc, _<_, _≤_};
+ghost use lib.ListN.{getD, length};
 ghost use Rattle.std.specs.Vec.{made};
+ghost use Rattle.base.specs.Numbers.{within};
 ghost use Rattle.tableau.specs.Rows.{Sound};
-ghost use Rattle.tableau.specs.Tables.{Ready, top};
+ghost use Rattle.tableau.specs.Tables.{Ready, noRow, top};
 ghost use Rattle.tree.specs.declared.node.Node.the-variants.{Leaf};
 ghost use Rattle.tree.specs.Trees.{sixForms};
 ghost use Rattle.solver.specs.Bounds.{StateReady, Stepped};
-ghost use Rattle.solver.specs.Ties.{solutionOf};
+ghost use Rattle.solver.specs.Ends.{Planted, splitting};
+ghost use Rattle.solver.specs.Rules.{node, where-form};
+ghost use Rattle.solver.specs.Ties.{limits, solutionOf, workOf};
 use crate::context::join;
 use crate::count::Count;
 use crate::count::barred;
@@ -61,6 +65,7 @@ pub fn node(state: &mut State, fuel: u32, work: &mut [Node], start: Count) -> Re
     requires ready { ⌜ StateReady (now state) ⌝ }
     requires within { ⌜ start .steps ≤ fuel ⌝ }
     requires fuel { ⌜ fuel ≤ 100000 ⌝ }
+    ensures value { λ r. ⌜ Planted (now (work .entry)) start (now (work .exit)) r (node (now (state .entry) .left) (workOf (now (state .entry))) (limits fuel (length (now (work .entry)))) start) ⌝ }
     ensures stepped { λ r. ⌜ made r (Stepped fuel start) ⌝ }
 {
     let (end, count) = settle(state, fuel, work, start)?;
@@ -84,6 +89,7 @@ fn split(
     requires row { ⌜ h < now state .table .count ⌝ }
     requires within { ⌜ start .steps ≤ fuel ⌝ }
     requires fuel { ⌜ fuel ≤ 100000 ⌝ }
+    ensures value { λ r. ⌜ Planted (now (work .entry)) start (now (work .exit)) r (splitting (now (state .entry) .left) (workOf (now (state .entry))) (getD (now (state .entry) .table .rows) h noRow .form) (limits fuel (length (now (work .entry)))) start) ⌝ }
     ensures stepped { λ r. ⌜ made r (Stepped fuel start) ⌝ }
 {
     if state.left == 0 {
@@ -113,8 +119,11 @@ fn split(
 fn branch(state: &mut State, form: &Form) -> bool
     requires ready { ⌜ StateReady (now state) ⌝ }
     requires left { ⌜ 0 < now state .left ⌝ }
+    ensures value { λ r. ⌜ r ≡ within (now (form .entry)) ⌝ }
+    ensures work { λ r. ⌜ (r ≡ true → workOf (now (state .exit)) ≡ where-form (workOf (now (state .entry))) (now (form .entry))) ⌝ }
     ensures ready { λ r. ⌜ (r ≡ true → StateReady (now (state .exit))) ⌝ }
     ensures left { λ _. ⌜ now (state .exit) .left < now (state .entry) .left ⌝ }
+    ensures once { λ _. ⌜ now (state .entry) .left ≡ suc (now (state .exit) .left) ⌝ }
 {
     state.left -= 1;
     join(&mut state.context, form)
