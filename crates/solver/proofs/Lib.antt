@@ -8,4 +8,5 @@ pub mod Signing
 pub mod Writing
 pub mod Settling
 pub mod Planting
+pub mod Running
 pub mod Reading

@@ -89,3 +89,8 @@ abbrev pub Planted : List TreeNode → Count → List TreeNode → Result Count 
 Planted before from after (Ok c) o =
     (t : Tree) × (o ≡ Ok (t, c)) × (from .nodes ≤ length before → Wrote before (from .nodes) (nodes t) after × (c .nodes ≡ from .nodes + length (nodes t)) × (c .nodes ≤ length before))
 Planted before from after (Err e) o = o ≡ Err e
+
+-- the same for a whole run, whose nodes stand from the first place on, the given ones before those of the tree
+abbrev pub Rooted : List TreeNode → List TreeNode → List TreeNode → Result Count Refusal → Outcome Tree → Type 0
+Rooted before ns after (Ok c) o = (t : Tree) × (o ≡ Ok (t, c)) × Wrote before 0 (ns ++ nodes t) after × (length (ns ++ nodes t) ≤ length before)
+Rooted before ns after (Err e) o = o ≡ Err e

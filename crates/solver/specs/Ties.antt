@@ -156,5 +156,5 @@ ContextRead m p rows (Err e) = numbersFit m (map (fitted (p + 1)) rows) ≡ Err 
 
 -- the state that a solve of S starts from, or why there is none
 abbrev pub Started : System → Result State Refusal → Type 0
-Started S (Ok s) = (systemFits S ≡ Ok tt) × (workOf s ≡ start S) × (s .left ≡ 12)
+Started S (Ok s) = (systemFits S ≡ Ok tt) × (workOf s ≡ start S) × (s .left ≡ 12) × (s .table .unknowns ≡ S .n)
 Started S (Err e) = systemFits S ≡ Err e

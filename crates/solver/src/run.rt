@@ -1,13 +1,14 @@
 //! A solve from end to end: the context's own test, head and keeps, the tree.
 ghost use mathlib.Core.Path.{_≡_};
-ghost use mathlib.Core.List.{map};
+ghost use mathlib.Core.List.{_∷_, map};
 ghost use Prim.Native.Nat.{ℕ, _+_, _≤_};
 ghost use lib.ListN.{length, replicate};
 ghost use Rattle.std.specs.Vec.{made};
-ghost use Rattle.tree.specs.declared.node.Node.the-variants.{Keep, None as Blank};
+ghost use Rattle.tree.specs.declared.node.Node.the-variants.{Head, Keep, None as Blank};
 ghost use Rattle.solver.specs.Bounds.{ContextReady, StateReady, Stepped, inForce};
-ghost use Rattle.solver.specs.Solves.{keeps};
-ghost use Rattle.solver.specs.Ties.{Wrote, counted, limits};
+ghost use Rattle.solver.specs.Ends.{Rooted};
+ghost use Rattle.solver.specs.Solves.{keeps, run};
+ghost use Rattle.solver.specs.Ties.{Wrote, counted, limits, workOf};
 use crate::context::Context;
 use crate::count::Count;
 use crate::node::node;
@@ -35,7 +36,7 @@ fn write_keeps(ctx: &Context, work: &mut [Node], start: Count) -> Result<Count, 
     requires { ⌜ ContextReady (now ctx) ⌝ }
     ensures value { λ r. ⌜ ((fuel : ℕ) → keeps (inForce (now (ctx .entry))) (limits fuel (length (now (work .entry)))) start ≡ counted r) ⌝ }
     ensures left { λ r. ⌜ made r (λ _. Wrote (now (work .entry)) (start .nodes) (map Keep (inForce (now (ctx .entry)))) (now (work .exit))) ⌝ }
-    ensures nodes { λ r. ⌜ made r (λ c. c .nodes ≡ start .nodes + now (ctx .entry) .count) ⌝ }
+    ensures nodes { λ r. ⌜ made r (λ c. c .nodes ≡ start .nodes + length (map Keep (inForce (now (ctx .entry))))) ⌝ }
     ensures room { λ r. ⌜ (start .nodes ≤ length (now (work .entry)) → made r (λ c. c .nodes ≤ length (now (work .entry)))) ⌝ }
     ensures steps { λ r. ⌜ made r (λ c. c .steps ≡ start .steps) ⌝ }
 {
@@ -49,7 +50,9 @@ fn write_keeps(ctx: &Context, work: &mut [Node], start: Count) -> Result<Count, 
 /// The run of a state: the context's own test, head and keeps, then the tree.
 fn run_state(state: &mut State, fuel: u32, work: &mut [Node]) -> Result<Count, Refusal>
     requires ready { ⌜ StateReady (now state) ⌝ }
+    requires left { ⌜ now state .left ≡ 12 ⌝ }
     requires fuel { ⌜ fuel ≤ 100000 ⌝ }
+    ensures value { λ r. ⌜ Rooted (now (work .entry)) (Head (now (state .entry) .table .unknowns) (now (state .entry) .context .parameters) ∷ map Keep (inForce (now (state .entry) .context))) (now (work .exit)) r (run (workOf (now (state .entry))) (limits fuel (length (now (work .entry)))) (record { steps = 0; nodes = 0 })) ⌝ }
     ensures stepped { λ r. ⌜ made r (λ c. c .steps ≤ fuel) ⌝ }
 {
     let (met, count) = test(&state.context, fuel, Count { steps: 0, nodes: 0 })?;

@@ -23,6 +23,7 @@ returns g c =
         ap (λ a. andThen a (andThen (numbersFit 0 (rowsOf S)) rest)) (v .0) ∙ ap (λ a. andThen a rest) (t .0) ∙ x .0,
         λ k. record { top = t .1 k; rest = t .2 k; context = x .1 k; parameters = x .2 k; made = x .3 k; cuts = 0 },
         refl,
+        c .in-Continue-table .ensures tt .counts .1 ∙ ap (λ x. x .n) (v .1),
       );
       ready = search needs;
     }
