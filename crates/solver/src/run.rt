@@ -7,7 +7,7 @@ ghost use Rattle.std.specs.Vec.{made};
 ghost use Rattle.tree.specs.declared.node.Node.the-variants.{Head, Keep, None as Blank};
 ghost use Rattle.solver.specs.Bounds.{ContextReady, StateReady, Stepped, inForce};
 ghost use Rattle.solver.specs.Ends.{Rooted};
-ghost use Rattle.solver.specs.Solves.{keeps, run};
+ghost use Rattle.solver.specs.Solves.{contextOf, keeps, run, solveAnswer, solved, workAfter};
 ghost use Rattle.solver.specs.Ties.{Wrote, counted, limits, workOf};
 use crate::context::Context;
 use crate::count::Count;
@@ -67,7 +67,9 @@ fn run_state(state: &mut State, fuel: u32, work: &mut [Node]) -> Result<Count, R
 }
 
 /// Reads the system, then the fuel, and runs it.
-fn read_and_run<S: Source>(source: &S, work: &mut [Node], fuel: i64) -> Result<Count, Refusal> {
+fn read_and_run<S: Source>(source: &S, work: &mut [Node], fuel: i64) -> Result<Count, Refusal>
+    ensures value { λ r. ⌜ Rooted (now (work .entry)) (Head (meaning (now (source .entry)) .n) (meaning (now (source .entry)) .p) ∷ map Keep (contextOf (meaning (now (source .entry))))) (now (work .exit)) r (solved (meaning (now (source .entry))) fuel (length (now (work .entry)))) ⌝ }
+{
     let mut state = read_state(source)?;
     if fuel < 0 || fuel > FUEL {
         return Err(Refusal::Fuel);
@@ -86,7 +88,10 @@ fn blank(work: &mut [Node])
 
 /// The solution tree of the source's system, written into the work table with blank nodes after it.
 /// Refused, the work table is all blank.
-pub fn solve_into<S: Source>(source: &S, work: &mut [Node], fuel: i64) -> Result<Solved, Refusal> {
+pub fn solve_into<S: Source>(source: &S, work: &mut [Node], fuel: i64) -> Result<Solved, Refusal>
+    ensures answer { λ r. ⌜ r ≡ solveAnswer (solved (meaning (now (source .entry))) fuel (length (now (work .entry)))) ⌝ }
+    ensures left { λ _. ⌜ now (work .exit) ≡ workAfter (meaning (now (source .entry))) (length (now (work .entry))) (solved (meaning (now (source .entry))) fuel (length (now (work .entry)))) ⌝ }
+{
     blank(work);
     match read_and_run(source, work, fuel) {
         Ok(count) => Ok(Solved {

@@ -72,7 +72,7 @@ returns-in-Break-count-2 c =
     record {
       value = subst (λ r. Rooted w (Head (x .table .unknowns) (x .context .parameters) ∷ map Keep (inForce (x .context))) (c .write-keeps .last .work) r (run (workOf x) l zero)) (sym e)
           (run-keeps-full (workOf x) l zero d met f (c .in-Continue-count .ensures tt .value) (c .in-Break-count-2 .field-0 .0)
-           (ap (λ n. keeps (inForce (x .context)) (limits (c .args .fuel) n) f) (sym long) ∙ c .write-keeps .ensures .value (c .args .fuel) ∙ ap counted (c .in-Break-count-2 .was tt)));
+          (ap (λ n. keeps (inForce (x .context)) (limits (c .args .fuel) n) f) (sym long) ∙ c .write-keeps .ensures .value (c .args .fuel) ∙ ap counted (c .in-Break-count-2 .was tt)));
       stepped = made-from-err _ _ (c .from-residual-in-Break-count-2 .ensures .0);
     }
 
