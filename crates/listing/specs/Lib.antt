@@ -1,3 +1,4 @@
 pub mod Words
 pub mod Listings
 pub mod Texts
+pub mod Solving

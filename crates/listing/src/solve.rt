@@ -1,4 +1,7 @@
 //! A listing solved, and its answer as text.
+ghost use mathlib.Core.Path.{_≡_};
+ghost use lib.ListN.{length};
+ghost use Rattle.listing.specs.Solving.{textSolved, workLeft};
 use crate::read::read;
 use crate::show::RefusalText;
 use crate::show::RefusalTextDisplay;
@@ -15,8 +18,11 @@ use tree::node::Node;
 /// The nodes that the work table of a listing holds.
 pub const WORK: usize = 64;
 
-/// Reads a listing and solves it into the work table.
-pub fn solve_text(text: &[u8], work: &mut [Node]) -> Result<Solved, Refusal> {
+/// Reads a listing and solves it into the work table. A text that is refused leaves the work table as it was.
+pub fn solve_text(text: &[u8], work: &mut [Node]) -> Result<Solved, Refusal>
+    ensures answer { λ r. ⌜ r ≡ textSolved (now (text .entry)) (length (now (work .entry))) ⌝ }
+    ensures left { λ _. ⌜ now (work .exit) ≡ workLeft (now (text .entry)) (now (work .entry)) ⌝ }
+{
     let listing = read(text)?;
     solve_into(&listing.source, work, listing.fuel)
 }
