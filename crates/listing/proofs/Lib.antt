@@ -2,3 +2,4 @@ mod WordSteps
 mod NumberSteps
 mod RowSteps
 mod Prints
+mod SolveSteps

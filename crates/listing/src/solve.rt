@@ -1,7 +1,9 @@
 //! A listing solved, and its answer as text.
 ghost use mathlib.Core.Path.{_≡_};
 ghost use lib.ListN.{length};
-ghost use Rattle.listing.specs.Solving.{textSolved, workLeft};
+ghost use Rattle.std.specs.Vec.{made};
+ghost use Rattle.std.specs.Of.String.{string-bytes};
+ghost use Rattle.listing.specs.Solving.{answerText, textSolved, workLeft};
 use crate::read::read;
 use crate::show::RefusalText;
 use crate::show::RefusalTextDisplay;
@@ -28,7 +30,9 @@ pub fn solve_text(text: &[u8], work: &mut [Node]) -> Result<Solved, Refusal>
 }
 
 /// What is printed for a listing: its solution tree and the steps, or by which number it is refused.
-pub fn answer_text(heap: Global, text: &[u8]) -> Result<String, AllocError> {
+pub fn answer_text(heap: Global, text: &[u8]) -> Result<String, AllocError>
+    ensures made { λ r. ⌜ made r (λ s. string-bytes s ≡ answerText (now (text .entry))) ⌝ }
+{
     let mut work = [Node::None; WORK];
     match solve_text(text, &mut work) {
         Ok(solved) => TreeText {
