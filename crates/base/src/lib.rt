@@ -1,4 +1,6 @@
 //! What every layer counts with: whole numbers, forms of the parameters, refusals.
+#![tactic(auto)]
+
 pub mod divisor;
 pub mod form;
 pub mod number;

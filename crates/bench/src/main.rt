@@ -1,5 +1,7 @@
 //! Solves each listing of a file many times: `bench FILE ROUNDS`. What was solved goes to standard
 //! output, the times to standard error.
+#![tactic(auto)]
+
 use anyhow::Context as _;
 use base::refusal::Refusal;
 use listing::read::{Listing, read};

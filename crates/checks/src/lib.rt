@@ -1,4 +1,6 @@
 //! What the crates do on examples. They stand here, and not beside the code, so that each crate is proved once.
+#![tactic(auto)]
+
 #[cfg(test)]
 mod nests;
 #[cfg(test)]

@@ -1,6 +1,8 @@
 //! Drafts as a caller holds them: begun, shown to each put, and taken back. `.ci/misuses` edits a
 //! copy of this file and sees that a forgotten draft, or one used after it was taken back, does not
 //! compile.
+#![tactic(auto)]
+
 use base::refusal::Refusal;
 use store::node_store::NodeStore;
 use store::store::Store;

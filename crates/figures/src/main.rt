@@ -1,4 +1,6 @@
 //! Solves each line of a file of listings and prints the line and its answer.
+#![tactic(auto)]
+
 ghost use Rattle.figures.specs.Figures.{FiguresStand};
 
 use listing::solve::answer_text;

@@ -1,4 +1,6 @@
 //! Reads a listing from standard input and prints its solution tree, or by which number it is refused.
+#![tactic(auto)]
+
 use listing::solve::answer_text;
 use std::io::Read;
 

@@ -1,4 +1,6 @@
 //! Listings: a system and its fuel as text, and the answer as text.
+#![tactic(auto)]
+
 mod counts;
 mod numbers;
 pub mod read;

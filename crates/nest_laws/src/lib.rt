@@ -1,4 +1,6 @@
 //! What holds of every nest: its least point is the latest posting.
+#![tactic(auto)]
+
 ghost use Rattle.nest.specs.Acts.{nest_of};
 ghost use Rattle.nest_laws.specs.Laws.{BackPosts, LatestPosting, NestFits, PostingsCorrespond};
 

@@ -1,5 +1,7 @@
 //! Reads a nest of loops from standard input and prints, for each parameter point that is asked, the latest posting to
 //! its cell. `docs/SOURCES.md` has the form of the text.
+#![tactic(auto)]
+
 use base::refusal::Refusal;
 use listing::word::{first_word, number};
 use nest::nest::Nest;

@@ -1,4 +1,6 @@
 //! The solver: node work, splits and tests of the context, over a work table of nodes.
+#![tactic(auto)]
+
 pub mod context;
 pub mod count;
 pub mod node;

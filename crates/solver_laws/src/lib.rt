@@ -1,4 +1,6 @@
 //! What holds of every solve by the rules.
+#![tactic(auto)]
+
 ghost use Rattle.solver_laws.specs.Contexts.{ContextLaws};
 ghost use Rattle.solver_laws.specs.Fuel.{FuelLaw};
 ghost use Rattle.solver_laws.specs.Laws.{NodesCounted, SolveLaws};

@@ -1,4 +1,6 @@
 //! Systems of linear inequalities: what one means, and where one comes from.
+#![tactic(auto)]
+
 pub mod limits;
 pub mod rows;
 pub mod source;

@@ -1,4 +1,6 @@
 //! The working table: rows in lowest terms, the entering column, pivots and cuts.
+#![tactic(auto)]
+
 pub mod column;
 pub mod cut;
 pub mod pair;

@@ -1,4 +1,6 @@
 //! Solution trees: the nodes that they are written in, and what they answer at a parameter point.
+#![tactic(auto)]
+
 pub mod kind;
 pub mod node;
 pub mod walk;

@@ -3,8 +3,8 @@ use Rattle.std.proofs.lemmas.List.{get_or-map}
 use Rattle.std.proofs.lemmas.Int.{ints}
 use Rattle.base.proofs.form.opposite.Goals as goal
 
-pub overflow-sub-other : goal.overflow-sub-other
-overflow-sub-other c =
+pub overflow_sub-other : goal.overflow_sub-other
+overflow_sub-other c =
     let C = c.args.form.now in
     let e : get_or c.negate.new.xs 9 (pos 0) ≡ neg_ℤ (get_or C 9 (pos 0)) = ap (λ l. get_or l 9 (pos 0)) c.negate.ensures ∙ get_or-map neg_ℤ C 9 (pos 0) (pos 0) (omega arith) in
     omega (arith, ints, e, c.requires 9)

@@ -10,18 +10,18 @@ both-fit s x y hs hx hy =
     let a = add-within s (x *ℤ y) (9 * 2 ^ 58) (2 ^ 58) hs m in
     (fits-within (x *ℤ y) (omega (arith, m)), fits-within (s +ℤ (x *ℤ y)) (omega (arith, a)))
 
-pub overflow-mul-result : goal.overflow-mul-result
-overflow-mul-result c =
+pub overflow_mul-result : goal.overflow_mul-result
+overflow_mul-result c =
     let fx = c.ranges.x in
     let fy = c.ranges.y in
-    simp to_z-of_z (both-fit c.args.sum.value c.args.x c.args.y c.requires.small-sum c.requires.small-x c.requires.small-y).0
+    simp to_z-of_z (both-fit c.args.sum.value c.args.x c.args.y c.requires.small_sum c.requires.small_x c.requires.small_y).0
 
-pub overflow-add-result : goal.overflow-add-result
-overflow-add-result c =
+pub overflow_add-result : goal.overflow_add-result
+overflow_add-result c =
     let fx = c.ranges.x in
     let fy = c.ranges.y in
     let fs : SFits w64 c.args.sum.value = search rules in
-    let f = both-fit c.args.sum.value c.args.x c.args.y c.requires.small-sum c.requires.small-x c.requires.small-y in
+    let f = both-fit c.args.sum.value c.args.x c.args.y c.requires.small_sum c.requires.small_x c.requires.small_y in
     let fp : SFits w64 (c.args.x *ℤ c.args.y) = f.0 in
     simp to_z-of_z f.1
 
@@ -30,7 +30,7 @@ returns c =
     let fx = c.ranges.x in
     let fy = c.ranges.y in
     let fs : SFits w64 c.args.sum.value = search rules in
-    let f = both-fit c.args.sum.value c.args.x c.args.y c.requires.small-sum c.requires.small-x c.requires.small-y in
+    let f = both-fit c.args.sum.value c.args.x c.args.y c.requires.small_sum c.requires.small_x c.requires.small_y in
     let fp : SFits w64 (c.args.x *ℤ c.args.y) = f.0 in
     let fa : SFits w64 (c.args.sum.value +ℤ (c.args.x *ℤ c.args.y)) = f.1 in
-    simp to_z-of_z (to_z-of_z w64 (c.args.sum.value +ℤ (c.args.x *ℤ c.args.y)) fa)
+    simp to_z-of_z

@@ -10,19 +10,19 @@ use Rattle.base.proofs.form.value.Goals as goal
 pub loop-k-init : goal.loop-k-init
 loop-k-init c =
     let f : SFits w64 (get_or c.args.form.now 9 (pos 0)) = search rules in
-    simp to_z-of_z (c.requires.small-form 9, search rules)
+    simp to_z-of_z (c.requires.small_form 9, search rules)
 
-pub plus-product-sum-requires : goal.plus-product-sum-requires
-plus-product-sum-requires c =
+pub plus_product-sum-requires : goal.plus_product-sum-requires
+plus_product-sum-requires c =
     let k = c.loop-k.k in
     let C = c.args.form.now in
     let R = c.args.setting.now in
     let fx : SFits w64 (get_or C k (pos 0)) = search rules in
     let fy : SFits w64 (get_or R k (pos 0)) = search rules in
     record {
-      small-sum = omega (arith, c.loop-k.invariant.0);
-      small-x = simp to_z-of_z (c.requires.small-form k);
-      small-y = simp to_z-of_z (c.requires.small-setting k);
+      small_sum = omega (arith, c.loop-k.invariant.0);
+      small_x = simp to_z-of_z (c.requires.small_form k);
+      small_y = simp to_z-of_z (c.requires.small_setting k);
     }
 
 pub loop-k-preserved : goal.loop-k-preserved
@@ -34,8 +34,8 @@ loop-k-preserved c =
     let p = at C k *ℤ at R k in
     let fx : SFits w64 (get_or C k (pos 0)) = search rules in
     let fy : SFits w64 (get_or R k (pos 0)) = search rules in
-    let v : c.plus-product-sum.result.value ≡ s +ℤ p = simp to_z-of_z at c.plus-product-sum.ensures in
-    let m = mul-within (at C k) (at R k) (2 ^ 31) (2 ^ 27) (c.requires.small-form k) (c.requires.small-setting k) in
+    let v : c.plus_product-sum.result.value ≡ s +ℤ p = simp to_z-of_z at c.plus_product-sum.ensures in
+    let m = mul-within (at C k) (at R k) (2 ^ 31) (2 ^ 27) (c.requires.small_form k) (c.requires.small_setting k) in
     let d = dot-more C R k (omega arith) (omega arith) in
     let i = c.loop-k.invariant in
     (omega (arith, ints, v, m, i.0), omega (arith, ints, v, d, i.1))
