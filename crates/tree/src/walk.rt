@@ -105,7 +105,7 @@ pub fn all_below(form: &NodeForm, d: i32) -> bool
 
 /// Whether a new parameter may be made where `made` are there.
 fn is_proper(made: usize, d: i32, form: &NodeForm) -> bool
-    ensures value { result ≡ proper IfOk d form.now }
+    ensures value { result ≡ proper made d form.now }
 {
     made < 5 && (2 <= d && all_below(form, d))
 }

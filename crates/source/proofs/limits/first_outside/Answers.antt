@@ -9,8 +9,8 @@ outside xs j h t = at_drop_more (first_outside j) xs j (pos 0) h ∙ simp t
 inside : (xs : List ℤ) (j : ℕ) → j < length xs → in_limits (get_or xs j (pos 0)) ≡ true → first_outside j (drop j xs) ≡ first_outside (j + 1) (drop (j + 1) xs)
 inside xs j h t = at_drop_more (first_outside j) xs j (pos 0) h ∙ simp t
 
-pub returns-then-not-in-limits : goal.returns-then-not-in-limits
-returns-then-not-in-limits c =
+pub returns-then-not-in_limits : goal.returns-then-not-in_limits
+returns-then-not-in_limits c =
     let xs = c.args.numbers.now in
     let j = c.loop-column.column in
     let t : in_limits (get_or xs j (pos 0)) ≡ false = search rules in

@@ -14,8 +14,8 @@ times-y-requires c =
     let i = c.args.i.now in
     let h = get_or t.rows c.loop-h.h no_row in
     record {
-      small-x = forth (λ z. nat_abs z ≤ 2 ^ 30) (at h.coefs c.args.l) (search rules) ((c.requires.ready.sound c.loop-h.h (omega arith)).coefs_small c.args.l);
-      small-y = forth (λ z. nat_abs z ≤ 2 ^ 30) (at i.coefs c.args.j) (search rules) (c.requires.row.coefs_small c.args.j);
+      small_x = forth (λ z. nat_abs z ≤ 2 ^ 30) (at h.coefs c.args.l) (search rules) ((c.requires.ready.sound c.loop-h.h (omega arith)).coefs_small c.args.l);
+      small_y = forth (λ z. nat_abs z ≤ 2 ^ 30) (at i.coefs c.args.j) (search rules) (c.requires.row.coefs_small c.args.j);
     }
 
 pub returns-then-x-y : goal.returns-then-x-y

@@ -15,8 +15,8 @@ pivoted-requires c =
     record {
       column = c.requires.there.1;
       above = c.requires.there.2;
-      sound-h = subst Sound (sym e) (c.requires.ready.sound h (omega arith));
-      sound-i = c.requires.ready.sound i c.requires.there.0;
+      sound_h = subst Sound (sym e) (c.requires.ready.sound h (omega arith));
+      sound_i = c.requires.ready.sound i c.requires.there.0;
     }
 
 pub loop-h-preserved : goal.loop-h-preserved
@@ -44,6 +44,6 @@ returns c =
       rows = rows;
       rest = dropped-done f t.rows new.rows t.count inv l;
       counts = (c.loop-h.invariant.1, c.loop-h.invariant.2);
-      answer = c.all-fit.ensures;
-      ready = λ yes. pivot-ready t new c.args.place c.requires.ready c.requires.there l rows c.loop-h.invariant.1 c.loop-h.invariant.2 (sym c.all-fit.ensures ∙ yes);
+      answer = c.all_fit.ensures;
+      ready = λ yes. pivot-ready t new c.args.place c.requires.ready c.requires.there l rows c.loop-h.invariant.1 c.loop-h.invariant.2 (sym c.all_fit.ensures ∙ yes);
     }

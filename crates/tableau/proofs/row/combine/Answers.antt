@@ -16,8 +16,8 @@ cross-requires c =
     let fx : SFits w64 x = search rules in
     let fy : SFits w64 y = search rules in
     record {
-      small-x = forth (λ z. nat_abs z ≤ 2 ^ 30) x fx (subst (λ z. nat_abs z ≤ 2 ^ 30) (sym e) (c.requires.small-xs k));
-      small-y = forth (λ z. nat_abs z ≤ 2 ^ 30) y fy (c.requires.small-ys k);
+      small_x = forth (λ z. nat_abs z ≤ 2 ^ 30) x fx (subst (λ z. nat_abs z ≤ 2 ^ 30) (sym e) (c.requires.small_xs k));
+      small_y = forth (λ z. nat_abs z ≤ 2 ^ 30) y fy (c.requires.small_ys k);
     }
 
 pub loop-k-preserved : goal.loop-k-preserved

@@ -3,8 +3,8 @@ use Rattle.std.proofs.lemmas.Int.{to_z-of_z}
 use Rattle.base.proofs.Products.{sub_within, fits-within}
 use Rattle.tableau.proofs.row.cross.Goals as goal
 
-pub overflow-sub-result : goal.overflow-sub-result
-overflow-sub-result c =
+pub overflow_sub-result : goal.overflow_sub-result
+overflow_sub-result c =
     let p = c.times.result in
     let q = c.times-2.result in
     let fp : SFits w64 p = search rules in

@@ -8,7 +8,7 @@ use Rattle.tableau.proofs.row.lowest.Goals as goal
 pub returns-then-by-eq1 : goal.returns-then-by-eq1
 returns-then-by-eq1 c =
     let raw = c.args.row in
-    let v = c.divisor-of-by.ensures.value in
+    let v = c.divisor_of-by.ensures.value in
     let one : gcd_of raw ≡ 1 = omega (arith, ints, v, c.if-by-eq1.true) in
     let e = lowest-same raw one in
     record { value = sym e; terms = subst (LowestTerms raw) e (lowest-terms raw c.requires) }
@@ -16,10 +16,10 @@ returns-then-by-eq1 c =
 pub returns : goal.returns
 returns c =
     let raw = c.args.row in
-    let g = c.divisor-of-by.result.value in
+    let g = c.divisor_of-by.result.value in
     let q = c.quotient.result in
     let fq : SFits w64 q = search rules in
     let fd : SFits w64 raw.div = search rules in
     let d = to_z-of_z w64 q fq ∙ c.quotient.ensures ∙ ap (quot_by g) (to_z-of_z w64 raw.div fd) in
-    let e = lowest-parts raw g c.divide.new.xs c.divide-2.new.xs (to_z w64 (of_z w64 q)) c.divisor-of-by.ensures.value c.divide.ensures c.divide-2.ensures d in
+    let e = lowest-parts raw g c.divide.new.xs c.divide-2.new.xs (to_z w64 (of_z w64 q)) c.divisor_of-by.ensures.value c.divide.ensures c.divide-2.ensures d in
     record { value = e; terms = subst (LowestTerms raw) (sym e) (lowest-terms raw c.requires) }

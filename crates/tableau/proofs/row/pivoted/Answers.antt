@@ -15,7 +15,7 @@ returns-then-b-eq0 c =
     let b = get_or h.coefs c.args.j (pos 0) in
     let fb : SFits w64 b = search rules in
     let none : b ≡ pos 0 = sym (to_z-of_z w64 b fb) ∙ ap (to_z w64) c.if-b-eq0.true in
-    pivoted-zero i c.args.j h (omega (arith, hc, c.requires.column)) (hc ∙ sym ic) (hf ∙ sym if) c.requires.above c.requires.sound-h none
+    pivoted-zero i c.args.j h (omega (arith, hc, c.requires.column)) (hc ∙ sym ic) (hf ∙ sym if) c.requires.above c.requires.sound_h none
 
 pub lowest-requires : goal.lowest-requires
 lowest-requires c =
@@ -27,4 +27,4 @@ lowest-requires c =
     let fr : SFits w64 r = search rules in
     let there = to_z w64 (of_z w64 d) in
     let v = back (λ z. r ≡ a *ℤ z) d fd (back (λ z. r ≡ z *ℤ there) a fa (back (λ z. r ≡ to_z w64 (of_z w64 z) *ℤ there) a fa c.times-2.ensures.value)) in
-    forth (λ z. pos 0 <ℤ z) r fr (subst (λ z. pos 0 <ℤ z) (sym v) (turned-above c.args.i.now c.args.j c.args.h c.requires.above c.requires.sound-h))
+    forth (λ z. pos 0 <ℤ z) r fr (subst (λ z. pos 0 <ℤ z) (sym v) (turned-above c.args.i.now c.args.j c.args.h c.requires.above c.requires.sound_h))

@@ -5,13 +5,13 @@ use Rattle.std.proofs.lemmas.Int.{to_z-of_z}
 use Rattle.tree.specs.Finds.{is_point}
 use Rattle.tree.proofs.walk.is_point.Goals as goal
 
-pub returns-then-not-in-point : goal.returns-then-not-in-point
-returns-then-not-in-point c =
+pub returns-then-not-in_point : goal.returns-then-not-in_point
+returns-then-not-in_point c =
     let xs = c.args.point.now in
     let i = c.loop-x.x-index in
     let x = get_or xs i (pos 0) in
     let f : SFits w64 x = search rules in
-    let t : false ≡ (le_z (pos 0) x && le_z x (pos 1000000)) = c.if-not-in-point.ensures.value ∙ ap (λ y. le_z (pos 0) y && le_z y (pos 1000000)) (to_z-of_z w64 x f) in
+    let t : false ≡ (le_z (pos 0) x && le_z x (pos 1000000)) = c.if-not-in_point.ensures.value ∙ ap (λ y. le_z (pos 0) y && le_z y (pos 1000000)) (to_z-of_z w64 x f) in
     record { value = sym (sym c.loop-x.invariant ∙ at_drop_more is_point xs i (pos 0) (search rules) ∙ simp (sym t)) }
 
 pub loop-x-preserved : goal.loop-x-preserved
@@ -20,7 +20,7 @@ loop-x-preserved c =
     let i = c.loop-x.x-index in
     let x = get_or xs i (pos 0) in
     let f : SFits w64 x = search rules in
-    let t : true ≡ (le_z (pos 0) x && le_z x (pos 1000000)) = c.if-not-in-point.ensures.value ∙ ap (λ y. le_z (pos 0) y && le_z y (pos 1000000)) (to_z-of_z w64 x f) in
+    let t : true ≡ (le_z (pos 0) x && le_z x (pos 1000000)) = c.if-not-in_point.ensures.value ∙ ap (λ y. le_z (pos 0) y && le_z y (pos 1000000)) (to_z-of_z w64 x f) in
     sym (sym c.loop-x.invariant ∙ at_drop_more is_point xs i (pos 0) (search rules) ∙ simp (sym t))
 
 pub returns : goal.returns

@@ -7,8 +7,8 @@ use Rattle.tree.proofs.walk.leaf_values.Goals as goal
 
 pub loop-k-preserved : goal.loop-k-preserved
 loop-k-preserved c =
-    let f : SFits w64 c.value-of.result = search rules in
-    six-more c.args.setting.now c.args.forms.now c.loop-k.k c.loop-k.values _ (search rules) (omega (arith, c.requires.few)) (to_z-of_z w64 c.value-of.result f ∙ c.value-of.ensures.value) c.loop-k.invariant
+    let f : SFits w64 c.value_of.result = search rules in
+    six-more c.args.setting.now c.args.forms.now c.loop-k.k c.loop-k.values _ (search rules) (omega (arith, c.requires.few)) (to_z-of_z w64 c.value_of.result f ∙ c.value_of.ensures.value) c.loop-k.invariant
 
 pub returns : goal.returns
 returns c =

@@ -6,7 +6,7 @@ holds-requires c =
     let w = c.args.at.now in
     record { small = setting-within w.made w.setting c.requires.ready.new c.requires.ready.small }
 
-pub leaf-values-requires : goal.leaf-values-requires
-leaf-values-requires c =
+pub leaf_values-requires : goal.leaf_values-requires
+leaf_values-requires c =
     let w = c.args.at.now in
     record { few = c.requires.ready.few; small = setting-within w.made w.setting c.requires.ready.new c.requires.ready.small }

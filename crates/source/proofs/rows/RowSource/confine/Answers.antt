@@ -13,12 +13,12 @@ use Rattle.source.proofs.rows.RowSource.confine.Goals as goal
 said : (s : RowSource) (row : List ℤ) → s.context_count ≤ length s.context → confine_answer (meaning_of s) row ≡ row_answer (s.p + 1) s.context_count 8 row
 said s row h = let w = s.p + 1 in ap (λ m. row_answer w m 8 row) (length-kept w s.context_count s.context h)
 
-pub returns-in-err-check-row : goal.returns-in-err-check-row
-returns-in-err-check-row c =
+pub returns-in_err-check_row : goal.returns-in_err-check_row
+returns-in_err-check_row c =
     let s = c.args.self.now in
     let row = c.args.row.now in
-    let p = err_from_is_err_and c.from-residual.result c.from-residual.ensures.1 in
-    let e : confine_answer (meaning_of s) row ≡ Err c.in-err-check-row.field-0.0 = said s row (omega arith) ∙ sym c.check-row.ensures.answer ∙ c.in-err-check-row.was in
+    let p = err_from_is_err_and c.from_residual.result c.from_residual.ensures.1 in
+    let e : confine_answer (meaning_of s) row ≡ Err c.in_err-check_row.field-0.0 = said s row (omega arith) ∙ sym c.check_row.ensures.answer ∙ c.in_err-check_row.was in
     record { answer = p.1 ∙ ap Err p.2 ∙ sym e; left = sym (confine-refused (meaning_of s) row _ e) }
 
 pub returns : goal.returns
@@ -26,9 +26,9 @@ returns c =
     let s = c.args.self.now in
     let row = c.args.row.now in
     let w = s.p + 1 in
-    let numbers = c.copy-front.new.places in
-    let f = c.in-ok-check-row.ensures.fits in
-    let e : confine_answer (meaning_of s) row ≡ Ok tt = said s row (omega arith) ∙ sym c.in-ok-check-row.ensures.answer in
-    let front : take w numbers ≡ row = ap (λ n. take n numbers) (sym f.0) ∙ c.copy-front.ensures.value in
+    let numbers = c.copy_front.new.places in
+    let f = c.in_ok-check_row.ensures.fits in
+    let e : confine_answer (meaning_of s) row ≡ Ok tt = said s row (omega arith) ∙ sym c.in_ok-check_row.ensures.answer in
+    let front : take w numbers ≡ row = ap (λ n. take n numbers) (sym f.0) ∙ c.copy_front.ensures.value in
     let with : List (List ℤ) → System = λ all. record { n = s.n; p = s.p; rows = (meaning_of s).rows; context = all } in
     record { answer = sym e; left = ap with (kept_more w s.context_count s.context numbers row (omega arith) front) ∙ sym (confine-joined (meaning_of s) row e) }

@@ -4,8 +4,8 @@ use Rattle.base.specs.Numbers.{AllWithin}
 use Rattle.tableau.proofs.CutRanges.{cut-above, lower-small}
 use Rattle.tableau.proofs.cut.Cut.lower.Goals as goal
 
-pub overflow-sub-form : goal.overflow-sub-form
-overflow-sub-form c = omega (arith, ints, c.requires.sound.below, cut-above c.args.self.now c.requires.sound)
+pub overflow_sub-form : goal.overflow_sub-form
+overflow_sub-form c = omega (arith, ints, c.requires.sound.below, cut-above c.args.self.now c.requires.sound)
 
 pub returns : goal.returns
 returns c =

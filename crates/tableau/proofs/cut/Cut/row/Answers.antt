@@ -4,7 +4,7 @@ use Rattle.tableau.specs.Cuts.{cut_form, cut_row}
 use Rattle.tableau.specs.Rows.{Sound, lowest}
 use Rattle.tableau.proofs.CutRanges.{cut-above, cut-row-sound}
 use Rattle.tableau.proofs.cut.Cut.row.Goals as goal
-use Rattle.tableau.proofs.cut.Cut.row.Goals.{in-Some, in-default}
+use Rattle.tableau.proofs.cut.Cut.row.Goals.{in-Some, in_default}
 
 pub lowest-requires : goal.lowest-requires
 lowest-requires c = omega (arith, ints, c.requires.sound.below, cut-above c.args.self.now c.requires.sound)
@@ -17,7 +17,7 @@ returns c =
     let d = to_z-of_z w64 cut.div f in
     let form : c.match-new.form ≡ cut_form cut new = elim c.match-new.branch [
       | in-Some w ↦ w.form-is ∙ ap (λ l. set l w.in-Some.q (to_z w64 (of_z w64 cut.div))) c.negate.ensures ∙ ap (set (map neg_ℤ cut.form) w.in-Some.q) d ∙ ap (cut_form cut) (sym w.in-Some.is)
-      | in-default w ↦ w.form-is ∙ c.negate.ensures ∙ ap (cut_form cut) (sym w.in-default.is)
+      | in_default w ↦ w.form-is ∙ c.negate.ensures ∙ ap (cut_form cut) (sym w.in_default.is)
     ] in
     let e : c.lowest.result ≡ cut_row cut new = c.lowest.ensures.value ∙ (λ k. lowest (record { coefs = cut.coefs; form = form k; div = d k })) in
     record { value = e; sound = subst Sound (sym e) (cut-row-sound cut c.requires.sound new) }

@@ -5,11 +5,11 @@ use Rattle.base.specs.Numbers.{AllWithin}
 use Rattle.tableau.proofs.CutRanges.{cut-above, upper-small}
 use Rattle.tableau.proofs.cut.Cut.upper.Goals as goal
 
-pub overflow-sub-form : goal.overflow-sub-form
-overflow-sub-form c = omega (arith, ints, c.requires.sound.below, cut-above c.args.self.now c.requires.sound)
+pub overflow_sub-form : goal.overflow_sub-form
+overflow_sub-form c = omega (arith, ints, c.requires.sound.below, cut-above c.args.self.now c.requires.sound)
 
-pub overflow-add-form : goal.overflow-add-form
-overflow-add-form c =
+pub overflow_add-form : goal.overflow_add-form
+overflow_add-form c =
     let cut = c.args.self.now in
     let ne : 9 ≢ c.args.q = omega arith in
     let e : get_or (set c.negate.new.xs c.args.q (to_z w64 (of_z w64 cut.div))) 9 (pos 0) ≡ neg_ℤ (get_or cut.form 9 (pos 0)) =
