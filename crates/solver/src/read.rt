@@ -29,7 +29,7 @@ pub struct Counts {
 
 /// The counts of a source, if they are within the limits of a system.
 fn counts_of<S: Source>(source: &S) -> Result<Counts, Refusal>
-    ensures answer { result ≡ counts_read (meaning source.now) }
+    ensures answer { result ≡ counts_read (S.meaning source.now) }
     ensures fits { IfOk result CountsFit }
 {
     let n = source.unknowns();
@@ -43,7 +43,7 @@ fn counts_of<S: Source>(source: &S) -> Result<Counts, Refusal>
 /// The numbers of row i, each asked for once.
 fn numbers_of<S: Source>(source: &S, i: usize, width: usize) -> [i64; MAX_ROW_LENGTH]
     requires { width ≤ 11 }
-    ensures front { take width result ≡ fitted width (slice_index_or (meaning source.now).rows i []) }
+    ensures front { take width result ≡ fitted width (slice_index_or (S.meaning source.now).rows i []) }
 {
     let mut numbers = [0; MAX_ROW_LENGTH];
     for j in 0..width {
@@ -55,7 +55,7 @@ fn numbers_of<S: Source>(source: &S, i: usize, width: usize) -> [i64; MAX_ROW_LE
 /// The numbers of context row i, each asked for once.
 fn context_numbers_of<S: Source>(source: &S, i: usize, width: usize) -> [i64; MAX_ROW_LENGTH]
     requires { width ≤ 11 }
-    ensures front { take width result ≡ fitted width (slice_index_or (meaning source.now).context i []) }
+    ensures front { take width result ≡ fitted width (slice_index_or (S.meaning source.now).context i []) }
 {
     let mut numbers = [0; MAX_ROW_LENGTH];
     for j in 0..width {
@@ -115,7 +115,7 @@ fn row_of(numbers: &[i64], n: usize, p: usize) -> Row
 /// Row i of the system.
 fn read_row<S: Source>(source: &S, c: Counts, i: usize) -> Result<Row, Refusal>
     requires { CountsFit c }
-    ensures answer { result ≡ row_read c.n c.p i (fitted (c.n + c.p + 1) (slice_index_or (meaning source.now).rows i [])) }
+    ensures answer { result ≡ row_read c.n c.p i (fitted (c.n + c.p + 1) (slice_index_or (S.meaning source.now).rows i [])) }
     ensures sound { IfOk result Sound }
 {
     let width = c.n + c.p + 1;
@@ -130,7 +130,7 @@ fn read_row<S: Source>(source: &S, c: Counts, i: usize) -> Result<Row, Refusal>
 fn read_form<S: Source>(source: &S, c: Counts, i: usize) -> Result<Form, Refusal>
     requires fits { CountsFit c }
     requires row { i < c.k }
-    ensures answer { result ≡ form_read c.p (c.m + i) (fitted (c.p + 1) (slice_index_or (meaning source.now).context i [])) }
+    ensures answer { result ≡ form_read c.p (c.m + i) (fitted (c.p + 1) (slice_index_or (S.meaning source.now).context i [])) }
     ensures small { IfOk result (AllWithin (2 ^ 30)) }
 {
     let width = c.p + 1;
@@ -143,8 +143,8 @@ fn read_form<S: Source>(source: &S, c: Counts, i: usize) -> Result<Form, Refusal
 /// The table of a system: the unknowns, then its rows.
 fn read_table<S: Source>(source: &S, c: Counts) -> Result<Table, Refusal>
     requires fits { CountsFit c }
-    requires rows { c.m ≡ length (meaning source.now).rows }
-    ensures answer { TableRead c.n c.p (meaning source.now).rows result }
+    requires rows { c.m ≡ length (S.meaning source.now).rows }
+    ensures answer { TableRead c.n c.p (S.meaning source.now).rows result }
     ensures ready { IfOk result Ready }
     ensures counts { IfOk result (λ t. (t.count ≡ c.n + c.m) × (t.unknowns ≡ c.n)) }
 {
@@ -158,8 +158,8 @@ fn read_table<S: Source>(source: &S, c: Counts) -> Result<Table, Refusal>
 /// The context of a system.
 fn read_context<S: Source>(source: &S, c: Counts) -> Result<Context, Refusal>
     requires fits { CountsFit c }
-    requires rows { c.k ≡ length (meaning source.now).context }
-    ensures answer { ContextRead c.m c.p (meaning source.now).context result }
+    requires rows { c.k ≡ length (S.meaning source.now).context }
+    ensures answer { ContextRead c.m c.p (S.meaning source.now).context result }
     ensures ready { IfOk result ContextReady }
     ensures counts { IfOk result (λ x. (x.count ≤ c.k) × (x.made ≡ 0)) }
 {
@@ -174,7 +174,7 @@ fn read_context<S: Source>(source: &S, c: Counts) -> Result<Context, Refusal>
 
 /// Inner: the state that a solve starts from, if the system is within the limits.
 pub fn read_state<S: Source>(source: &S) -> Result<State, Refusal>
-    ensures answer { Started (meaning source.now) result }
+    ensures answer { Started (S.meaning source.now) result }
     ensures ready { IfOk result StateReady }
 {
     let c = counts_of(source)?;

@@ -64,7 +64,7 @@ fn run_state(state: &mut State, fuel: u32, work: &mut [Node]) -> Result<Count, R
 
 /// Reads the system, then the fuel, and runs it.
 fn read_and_run<S: Source>(source: &S, work: &mut [Node], fuel: i64) -> Result<Count, Refusal>
-    ensures value { Rooted work.old (Head (meaning source.now).n (meaning source.now).p ∷ map Keep (context_of (meaning source.now))) work.new result (solved (meaning source.now) fuel (length work.old)) }
+    ensures value { Rooted work.old (Head (S.meaning source.now).n (S.meaning source.now).p ∷ map Keep (context_of (S.meaning source.now))) work.new result (solved (S.meaning source.now) fuel (length work.old)) }
 {
     let mut state = read_state(source)?;
     if fuel < 0 || fuel > FUEL {
@@ -85,8 +85,8 @@ fn blank(work: &mut [Node])
 /// The solution tree of the source's system, written into the work table with blank nodes after it.
 /// Refused, the work table is all blank.
 pub fn solve_into<S: Source>(source: &S, work: &mut [Node], fuel: i64) -> Result<Solved, Refusal>
-    ensures answer { result ≡ solve_answer (solved (meaning source.now) fuel (length work.old)) }
-    ensures left { work.new ≡ work_after (meaning source.now) (length work.old) (solved (meaning source.now) fuel (length work.old)) }
+    ensures answer { result ≡ solve_answer (solved (S.meaning source.now) fuel (length work.old)) }
+    ensures left { work.new ≡ work_after (S.meaning source.now) (length work.old) (solved (S.meaning source.now) fuel (length work.old)) }
 {
     blank(work);
     match read_and_run(source, work, fuel) {

@@ -7,8 +7,8 @@ use Rattle.solver.proofs.context.join.Goals as goal
 pub returns : goal.returns
 returns c =
     record {
-      answer = c.if-not-in-range.ensures;
-      ready = context-push c.args.ctx.now c.args.form.now (search rules) c.requires.room c.requires.ready (all-within c.args.form.now (sym c.if-not-in-range.ensures));
+      answer = c.if-not-in_range.ensures;
+      ready = context-push c.args.ctx.now c.args.form.now (search rules) c.requires.room c.requires.ready (all-within c.args.form.now (sym c.if-not-in_range.ensures));
       rows = search (rules, take_more_set);
       kept = search (rules, take-set);
       counts = (refl, refl, refl);

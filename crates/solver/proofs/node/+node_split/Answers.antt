@@ -15,18 +15,18 @@ use Rattle.solver.specs.Ties.{Wrote, limits, solution_of, work_of}
 use Rattle.solver.proofs.Planting.{below-refused, node-is, planted-end, planted-node, planted-split, some_left, split-barred, split-first, split-full, split-out, split-out-2, split-spent}
 use Rattle.solver.proofs.node.+node_split.Goals as goal
 
-pub node-returns-in-err-end : goal.node-returns-in-err-end
-node-returns-in-err-end t c =
+pub node-returns-in_err-end : goal.node-returns-in_err-end
+node-returns-in_err-end t c =
     let x = c.args.state.now in
     let w = c.args.work.now in
     let l = limits c.args.fuel (length w) in
     let q = c.settle.ensures.value in
-    let p = err_from_is_err_and c.from-residual.result c.from-residual.ensures.1 in
+    let p = err_from_is_err_and c.from_residual.result c.from_residual.ensures.1 in
     let e = p.1 ∙ ap Err p.2 in
     record {
       value = subst (λ r. Planted w c.args.start c.settle.new.work r (node x.left (work_of x) l c.args.start)) (sym e)
-          (node-is x.left (work_of x) l c.args.start ∙ q.2 (splitting x.left) ∙ ap (λ r. below_all q.0 (finishing (splitting x.left) c.settle.new.state l r)) c.in-err-end.was ∙ below-refused q.0 c.in-err-end.field-0.0);
-      stepped = IfOk-from_err _ _ c.from-residual.ensures.0;
+          (node-is x.left (work_of x) l c.args.start ∙ q.2 (splitting x.left) ∙ ap (λ r. below_all q.0 (finishing (splitting x.left) c.settle.new.state l r)) c.in_err-end.was ∙ below-refused q.0 c.in_err-end.field-0.0);
+      stepped = IfOk-from_err _ _ c.from_residual.ensures.0;
     }
 
 pub node-returns-in-Leaf : goal.node-returns-in-Leaf
@@ -35,14 +35,14 @@ node-returns-in-Leaf t c =
     let y = c.settle.new.state in
     let w = c.args.work.now in
     let v = c.settle.new.work in
-    let k = c.in-ok-end.count in
-    let q = subst (λ e. Settled c.args.fuel x w c.args.start y v (Ok (e, k))) c.in-Leaf.is c.in-ok-end.ensures.value in
+    let k = c.in_ok-end.count in
+    let q = subst (λ e. Settled c.args.fuel x w c.args.start y v (Ok (e, k))) c.in-Leaf.is c.in_ok-end.ensures.value in
     let long : length v ≡ length w = search rules in
     let tree = leaf (map solution_of (top y.table)) in
     record {
       value = planted-node x.left c.args.fuel x y w v c.write.new.work c.args.start k Leaf c.write.result long q
           (subst (λ n. Planted v k c.write.new.work c.write.result ((write Node >> return tree) (limits c.args.fuel n) k)) long
-          (planted-end v c.write.new.work c.args.fuel k tree c.leaf-of.result c.write.result (ap (λ n. n ∷ []) (sym c.leaf-of.ensures.value)) c.write.ensures.value c.write.ensures.left));
+          (planted-end v c.write.new.work c.args.fuel k tree c.leaf_of.result c.write.result (ap (λ n. n ∷ []) (sym c.leaf_of.ensures.value)) c.write.ensures.value c.write.ensures.left));
       stepped = search rules;
     }
 
@@ -52,8 +52,8 @@ node-returns-in-None t c =
     let y = c.settle.new.state in
     let w = c.args.work.now in
     let v = c.settle.new.work in
-    let k = c.in-ok-end.count in
-    let q = subst (λ e. Settled c.args.fuel x w c.args.start y v (Ok (e, k))) c.in-None.is c.in-ok-end.ensures.value in
+    let k = c.in_ok-end.count in
+    let q = subst (λ e. Settled c.args.fuel x w c.args.start y v (Ok (e, k))) c.in-None.is c.in_ok-end.ensures.value in
     let long : length v ≡ length w = search rules in
     record {
       value = planted-node x.left c.args.fuel x y w v c.write-in-None.new.work c.args.start k NoPoint c.write-in-None.result long q
@@ -68,8 +68,8 @@ node-returns-in-Split t c =
     let y = c.settle.new.state in
     let w = c.args.work.now in
     let v = c.settle.new.work in
-    let k = c.in-ok-end.count in
-    let q = subst (λ e. Settled c.args.fuel x w c.args.start y v (Ok (e, k))) c.in-Split.is c.in-ok-end.ensures.value in
+    let k = c.in_ok-end.count in
+    let q = subst (λ e. Settled c.args.fuel x w c.args.start y v (Ok (e, k))) c.in-Split.is c.in_ok-end.ensures.value in
     let h = c.in-Split.h in
     let long : length v ≡ length w = search rules in
     record {
@@ -91,36 +91,36 @@ split-returns-then-state-eq0 t c =
       stepped = tt;
     }
 
-pub split-returns-in-err-count : goal.split-returns-in-err-count
-split-returns-in-err-count t c =
+pub split-returns-in_err-count : goal.split-returns-in_err-count
+split-returns-in_err-count t c =
     let x = c.args.state.now in
     let w = c.args.work.now in
     let C = (get_or x.table.rows c.args.h no_row).form in
     let l = limits c.args.fuel (length w) in
-    let p = err_from_is_err_and c.from-residual.result c.from-residual.ensures.1 in
+    let p = err_from_is_err_and c.from_residual.result c.from_residual.ensures.1 in
     let e = p.1 ∙ ap Err p.2 in
     let m = some_left x.left (omega arith) in
     record {
       value = subst (λ r. Planted w c.args.start w r (splitting x.left (work_of x) C l c.args.start)) (sym e)
-          (ap (λ n. splitting n (work_of x) C l c.args.start) m.1 ∙ split-spent m.0 (work_of x) C c.args.fuel (length w) c.args.start c.in-err-count.field-0.0 (sym c.tick.ensures.value ∙ c.in-err-count.was));
-      stepped = IfOk-from_err _ _ c.from-residual.ensures.0;
+          (ap (λ n. splitting n (work_of x) C l c.args.start) m.1 ∙ split-spent m.0 (work_of x) C c.args.fuel (length w) c.args.start c.in_err-count.field-0.0 (sym c.tick.ensures.value ∙ c.in_err-count.was));
+      stepped = IfOk-from_err _ _ c.from_residual.ensures.0;
     }
 
-pub split-returns-in-err-count-2 : goal.split-returns-in-err-count-2
-split-returns-in-err-count-2 t c =
+pub split-returns-in_err-count-2 : goal.split-returns-in_err-count-2
+split-returns-in_err-count-2 t c =
     let x = c.args.state.now in
     let w = c.args.work.now in
     let C = (get_or x.table.rows c.args.h no_row).form in
     let l = limits c.args.fuel (length w) in
-    let p = err_from_is_err_and c.from-residual-in-err-count-2.result c.from-residual-in-err-count-2.ensures.1 in
+    let p = err_from_is_err_and c.from_residual-in_err-count-2.result c.from_residual-in_err-count-2.ensures.1 in
     let e = p.1 ∙ ap Err p.2 in
     let m = some_left x.left (omega arith) in
-    let d = c.in-ok-count.count in
-    let ticks = sym c.in-ok-count.ensures.value in
+    let d = c.in_ok-count.count in
+    let ticks = sym c.in_ok-count.ensures.value in
     record {
       value = subst (λ r. Planted w c.args.start c.write.new.work r (splitting x.left (work_of x) C l c.args.start)) (sym e)
-          (ap (λ n. splitting n (work_of x) C l c.args.start) m.1 ∙ split-full m.0 (work_of x) C c.args.fuel (length w) c.args.start d ticks c.in-err-count-2.field-0.0 c.in-err-count-2.ensures.value);
-      stepped = IfOk-from_err _ _ c.from-residual-in-err-count-2.ensures.0;
+          (ap (λ n. splitting n (work_of x) C l c.args.start) m.1 ∙ split-full m.0 (work_of x) C c.args.fuel (length w) c.args.start d ticks c.in_err-count-2.field-0.0 c.in_err-count-2.ensures.value);
+      stepped = IfOk-from_err _ _ c.from_residual-in_err-count-2.ensures.0;
     }
 
 pub split-returns-then-not-branch : goal.split-returns-then-not-branch
@@ -129,10 +129,10 @@ split-returns-then-not-branch t c =
     let w = c.args.work.now in
     let C = (get_or x.table.rows c.args.h no_row).form in
     let l = limits c.args.fuel (length w) in
-    let d = c.in-ok-count.count in
-    let ticks = sym c.in-ok-count.ensures.value in
-    let f = c.in-ok-count-2.count in
-    let wrote = c.in-ok-count-2.ensures.value in
+    let d = c.in_ok-count.count in
+    let ticks = sym c.in_ok-count.ensures.value in
+    let f = c.in_ok-count-2.count in
+    let wrote = c.in_ok-count-2.ensures.value in
     let b = c.if-not-branch.ensures in
     let m = c.branch-first.new.state.left in
     record {
@@ -140,18 +140,18 @@ split-returns-then-not-branch t c =
       stepped = tt;
     }
 
-pub split-returns-in-err-count-3 : goal.split-returns-in-err-count-3
-split-returns-in-err-count-3 t c =
+pub split-returns-in_err-count-3 : goal.split-returns-in_err-count-3
+split-returns-in_err-count-3 t c =
     let x = c.args.state.now in
     let w = c.args.work.now in
     let C = (get_or x.table.rows c.args.h no_row).form in
     let l = limits c.args.fuel (length w) in
-    let p = err_from_is_err_and c.from-residual-in-err-count-3.result c.from-residual-in-err-count-3.ensures.1 in
+    let p = err_from_is_err_and c.from_residual-in_err-count-3.result c.from_residual-in_err-count-3.ensures.1 in
     let e = p.1 ∙ ap Err p.2 in
-    let d = c.in-ok-count.count in
-    let ticks = sym c.in-ok-count.ensures.value in
-    let f = c.in-ok-count-2.count in
-    let wrote = c.in-ok-count-2.ensures.value in
+    let d = c.in_ok-count.count in
+    let ticks = sym c.in_ok-count.ensures.value in
+    let f = c.in_ok-count-2.count in
+    let wrote = c.in_ok-count-2.ensures.value in
     let b = c.if-not-branch.ensures in
     let m = c.branch-first.new.state.left in
     let long : length c.write.new.work ≡ length w = search rules in
@@ -159,9 +159,9 @@ split-returns-in-err-count-3 t c =
     let at = b.work refl in
     record {
       value = subst (λ r. Planted w c.args.start c.node.new.work r (splitting x.left (work_of x) C l c.args.start)) (sym e)
-          (ap (λ n. splitting n (work_of x) C l c.args.start) b.once ∙ split-first m (work_of x) C c.args.fuel (length w) c.args.start d ticks f wrote (sym b.value) c.in-err-count-3.field-0.0
-          (ap (λ s. node m s l f) (sym at) ∙ ap (λ n. node m (work_of first) (limits c.args.fuel n) f) (sym long) ∙ c.in-err-count-3.ensures.value));
-      stepped = IfOk-from_err _ _ c.from-residual-in-err-count-3.ensures.0;
+          (ap (λ n. splitting n (work_of x) C l c.args.start) b.once ∙ split-first m (work_of x) C c.args.fuel (length w) c.args.start d ticks f wrote (sym b.value) c.in_err-count-3.field-0.0
+          (ap (λ s. node m s l f) (sym at) ∙ ap (λ n. node m (work_of first) (limits c.args.fuel n) f) (sym long) ∙ c.in_err-count-3.ensures.value));
+      stepped = IfOk-from_err _ _ c.from_residual-in_err-count-3.ensures.0;
     }
 
 pub split-returns-then-not-branch-2 : goal.split-returns-then-not-branch-2
@@ -170,19 +170,19 @@ split-returns-then-not-branch-2 t c =
     let w = c.args.work.now in
     let C = (get_or x.table.rows c.args.h no_row).form in
     let l = limits c.args.fuel (length w) in
-    let d = c.in-ok-count.count in
-    let ticks = sym c.in-ok-count.ensures.value in
-    let f = c.in-ok-count-2.count in
-    let wrote = c.in-ok-count-2.ensures.value in
+    let d = c.in_ok-count.count in
+    let ticks = sym c.in_ok-count.ensures.value in
+    let f = c.in_ok-count-2.count in
+    let wrote = c.in_ok-count-2.ensures.value in
     let b = c.if-not-branch.ensures in
     let m = c.branch-first.new.state.left in
     let long : length c.write.new.work ≡ length w = search rules in
     let first = c.branch-first.new.state in
     let at = b.work refl in
-    let k = c.in-ok-count-3.count in
+    let k = c.in_ok-count-3.count in
     let w₁ = c.write.new.work in
     let w₂ = c.node.new.work in
-    let P = subst (λ s. Planted w₁ f w₂ (Ok k) (node m s l f)) at (subst (λ n. Planted w₁ f w₂ (Ok k) (node m (work_of first) (limits c.args.fuel n) f)) long c.in-ok-count-3.ensures.value) in
+    let P = subst (λ s. Planted w₁ f w₂ (Ok k) (node m s l f)) at (subst (λ n. Planted w₁ f w₂ (Ok k) (node m (work_of first) (limits c.args.fuel n) f)) long c.in_ok-count-3.ensures.value) in
     let b₂ = c.if-not-branch-2.ensures in
     let opp = c.opposite.ensures in
     record {
@@ -197,19 +197,19 @@ split-returns t c =
     let w = c.args.work.now in
     let C = (get_or x.table.rows c.args.h no_row).form in
     let l = limits c.args.fuel (length w) in
-    let d = c.in-ok-count.count in
-    let ticks = sym c.in-ok-count.ensures.value in
-    let f = c.in-ok-count-2.count in
-    let wrote = c.in-ok-count-2.ensures.value in
+    let d = c.in_ok-count.count in
+    let ticks = sym c.in_ok-count.ensures.value in
+    let f = c.in_ok-count-2.count in
+    let wrote = c.in_ok-count-2.ensures.value in
     let b = c.if-not-branch.ensures in
     let m = c.branch-first.new.state.left in
     let long : length c.write.new.work ≡ length w = search rules in
     let first = c.branch-first.new.state in
     let at = b.work refl in
-    let k = c.in-ok-count-3.count in
+    let k = c.in_ok-count-3.count in
     let w₁ = c.write.new.work in
     let w₂ = c.node.new.work in
-    let P = subst (λ s. Planted w₁ f w₂ (Ok k) (node m s l f)) at (subst (λ n. Planted w₁ f w₂ (Ok k) (node m (work_of first) (limits c.args.fuel n) f)) long c.in-ok-count-3.ensures.value) in
+    let P = subst (λ s. Planted w₁ f w₂ (Ok k) (node m s l f)) at (subst (λ n. Planted w₁ f w₂ (Ok k) (node m (work_of first) (limits c.args.fuel n) f)) long c.in_ok-count-3.ensures.value) in
     let b₂ = c.if-not-branch-2.ensures in
     let opp = c.opposite.ensures in
     let long₂ : length w₂ ≡ length w = search rules in
@@ -222,6 +222,6 @@ split-returns t c =
     (subst (λ n. Planted w₂ k z r (node y.left (work_of y) (limits c.args.fuel n) k)) long₂ c.node-2.ensures.value)) in
     record {
       value = subst (λ n. Planted w c.args.start z r (splitting n (work_of x) C l c.args.start)) (sym b.once)
-          (planted-split w w₁ w₂ z m (work_of x) C c.args.fuel c.args.start d f k r long long₂ ticks c.in-ok-count.ensures.nodes wrote (subst (λ F. Wrote w d.nodes (SplitNode F ∷ []) w₁) c.narrow.ensures.value c.in-ok-count-2.ensures.left) (sym b.value) P (ap within (sym opp) ∙ sym b₂.value) Q);
+          (planted-split w w₁ w₂ z m (work_of x) C c.args.fuel c.args.start d f k r long long₂ ticks c.in_ok-count.ensures.nodes wrote (subst (λ F. Wrote w d.nodes (SplitNode F ∷ []) w₁) c.narrow.ensures.value c.in_ok-count-2.ensures.left) (sym b.value) P (ap within (sym opp) ∙ sym b₂.value) Q);
       stepped = search rules;
     }

@@ -10,10 +10,10 @@ loop-j-preserved g c =
     let row = get_or (g.S.Source.meaning c.args.source.now).context c.args.i [] in
     let j = c.loop-j.j in
     let i = c.loop-j.invariant in
-    let v = to_z w64 (of_z w64 c.context-number.result) in
-    let f : SFits w64 c.context-number.result = search rules in (
+    let v = to_z w64 (of_z w64 c.context_number.result) in
+    let f : SFits w64 c.context_number.result = search rules in (
       length-set c.loop-j.numbers j v ∙ i.0,
-      take_more_set c.loop-j.numbers j v (omega (arith, i.0)) ∙ ap (λ l. l ++ v ∷ []) i.1 ∙ ap (λ x. fitted j row ++ x ∷ []) (to_z-of_z w64 c.context-number.result f ∙ c.context-number.ensures.value) ∙ sym (fitted-more j row),
+      take_more_set c.loop-j.numbers j v (omega (arith, i.0)) ∙ ap (λ l. l ++ v ∷ []) i.1 ∙ ap (λ x. fitted j row ++ x ∷ []) (to_z-of_z w64 c.context_number.result f ∙ c.context_number.ensures.value) ∙ sym (fitted-more j row),
     )
 
 pub returns : goal.returns

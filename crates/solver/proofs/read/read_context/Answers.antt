@@ -11,12 +11,12 @@ use Rattle.solver.proofs.read.read_context.Goals as goal
 
 pub loop-i-init : goal.loop-i-init
 loop-i-init g c =
-    let u = c.open-context-ctx.ensures in
+    let u = c.open_context-ctx.ensures in
     let m = c.args.c.m in
     let p = c.args.c.p in
     let rows = (g.S.Source.meaning c.args.source.now).context in
     let z : m + 0 ≡ m = omega arith in
-    (u.ready, u.counts.0, u.counts.2, u.counts.1, ap (λ n. take n c.open-context-ctx.result.forms) u.counts.0, ap (λ n. numbers_fit n (map (fitted (p + 1)) rows)) z)
+    (u.ready, u.counts.0, u.counts.2, u.counts.1, ap (λ n. take n c.open_context-ctx.result.forms) u.counts.0, ap (λ n. numbers_fit n (map (fitted (p + 1)) rows)) z)
 
 pub loop-i-preserved : goal.loop-i-preserved
 loop-i-preserved g c =
@@ -27,10 +27,10 @@ loop-i-preserved g c =
     let i = c.loop-i.invariant in
     let h : k < length rows = omega (arith, c.requires.rows) in
     let row = fitted (p + 1) (get_or rows k []) in
-    let x = c.in-ok-form.form in
+    let x = c.in_ok-form.form in
     let f : List ℤ → List ℤ = λ r. form_of p (fitted (p + 1) r) in
-    let v = then_ok (numbers_answer (m + k) row) (form_of p row) x (sym c.in-ok-form.was ∙ c.read-form.ensures.answer) in
-    let s = IfOk-at_ok (AllWithin (2 ^ 30)) c.in-ok-form.was c.read-form.ensures.small in
+    let v = then_ok (numbers_answer (m + k) row) (form_of p row) x (sym c.in_ok-form.was ∙ c.read_form.ensures.answer) in
+    let s = IfOk-at_ok (AllWithin (2 ^ 30)) c.in_ok-form.was c.read_form.ensures.small in
     let q = c.join.ensures in
     let t : c.join.result ≡ true = q.answer ∙ small-within x s in
     let old = c.loop-i.ctx in
@@ -43,8 +43,8 @@ loop-i-preserved g c =
       ap (λ n. numbers_fit n (map (fitted (p + 1)) (drop (k + 1) rows))) (sym z) ∙ sym (fit-more (fitted (p + 1)) (m + k) k rows h v.0) ∙ i.5,
     )
 
-pub returns-in-err-form : goal.returns-in-err-form
-returns-in-err-form g c =
+pub returns-in_err-form : goal.returns-in_err-form
+returns-in_err-form g c =
     let rows = (g.S.Source.meaning c.args.source.now).context in
     let m = c.args.c.m in
     let p = c.args.c.p in
@@ -52,9 +52,9 @@ returns-in-err-form g c =
     let i = c.loop-i.invariant in
     let h : k < length rows = omega (arith, c.requires.rows) in
     let row = fitted (p + 1) (get_or rows k []) in
-    let d = c.in-err-form.field-0.0 in
-    let v = then-err (numbers_answer (m + k) row) (form_of p row) d (sym c.in-err-form.was ∙ c.read-form.ensures.answer) in
-    let q = err_from_is_err_and c.from-residual.result c.from-residual.ensures.1 in
+    let d = c.in_err-form.field-0.0 in
+    let v = then-err (numbers_answer (m + k) row) (form_of p row) d (sym c.in_err-form.was ∙ c.read_form.ensures.answer) in
+    let q = err_from_is_err_and c.from_residual.result c.from_residual.ensures.1 in
     record {
       answer = rw (q.1, q.2) (sym i.5 ∙ fit-stop (fitted (p + 1)) (m + k) k rows d h v);
       ready = search rules;

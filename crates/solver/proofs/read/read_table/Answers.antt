@@ -8,8 +8,8 @@ use Rattle.solver.proofs.read.read_table.Goals as goal
 
 pub loop-i-init : goal.loop-i-init
 loop-i-init g c =
-    let u = c.unit-table-table.ensures in
-    let q = unit-parts c.unit-table-table.result c.args.c.n u.rows u.counts.0 u.counts.1 in
+    let u = c.unit_table-table.ensures in
+    let q = unit-parts c.unit_table-table.result c.args.c.n u.rows u.counts.0 u.counts.1 in
     (u.ready, omega (arith, u.counts.0), u.counts.1, q.0, q.1, refl)
 
 pub loop-i-preserved : goal.loop-i-preserved
@@ -21,9 +21,9 @@ loop-i-preserved g c =
     let i = c.loop-i.invariant in
     let h : k < length rows = omega (arith, c.requires.rows) in
     let row = fitted (n + p + 1) (get_or rows k []) in
-    let x = c.in-ok-read-row.field-0 in
-    let v = then_ok (numbers_answer k row) (row_of n p row) x (sym c.in-ok-read-row.was ∙ c.read-row.ensures.answer) in
-    let q = c.push-row.ensures in (
+    let x = c.in_ok-read_row.field-0 in
+    let v = then_ok (numbers_answer k row) (row_of n p row) x (sym c.in_ok-read_row.was ∙ c.read_row.ensures.answer) in
+    let q = c.push_row.ensures in (
       q.ready,
       omega (arith, q.counts.0, i.1),
       q.counts.1 ∙ i.2,
@@ -32,8 +32,8 @@ loop-i-preserved g c =
       sym (fit-more (fitted (n + p + 1)) k k rows h v.0) ∙ i.5,
     )
 
-pub returns-in-err-read-row : goal.returns-in-err-read-row
-returns-in-err-read-row g c =
+pub returns-in_err-read_row : goal.returns-in_err-read_row
+returns-in_err-read_row g c =
     let rows = (g.S.Source.meaning c.args.source.now).rows in
     let n = c.args.c.n in
     let p = c.args.c.p in
@@ -41,9 +41,9 @@ returns-in-err-read-row g c =
     let i = c.loop-i.invariant in
     let h : k < length rows = omega (arith, c.requires.rows) in
     let row = fitted (n + p + 1) (get_or rows k []) in
-    let d = c.in-err-read-row.field-0.0 in
-    let v = then-err (numbers_answer k row) (row_of n p row) d (sym c.in-err-read-row.was ∙ c.read-row.ensures.answer) in
-    let q = err_from_is_err_and c.from-residual.result c.from-residual.ensures.1 in
+    let d = c.in_err-read_row.field-0.0 in
+    let v = then-err (numbers_answer k row) (row_of n p row) d (sym c.in_err-read_row.was ∙ c.read_row.ensures.answer) in
+    let q = err_from_is_err_and c.from_residual.result c.from_residual.ensures.1 in
     record {
       answer = rw (q.1, q.2) (sym i.5 ∙ fit-stop (fitted (n + p + 1)) k k rows d h v);
       ready = search rules;

@@ -4,8 +4,8 @@ use Rattle.solver.specs.Solves.{form_of}
 use Rattle.solver.proofs.Keeping.{sound-one, within-drop}
 use Rattle.solver.proofs.read.row_of.Goals as goal
 
-pub form-of-form-requires : goal.form-of-form-requires
-form-of-form-requires c =
+pub form_of-form-requires : goal.form_of-form-requires
+form_of-form-requires c =
     let xs = c.args.numbers.now in
     let n = c.args.n in
     record {
@@ -18,8 +18,8 @@ pub returns : goal.returns
 returns c =
     let xs = c.args.numbers.now in
     let p = c.args.p in
-    let f = c.form-of-form.ensures.value ∙ ap (form_of p) (take_rest xs c.args.n) in
+    let f = c.form_of-form.ensures.value ∙ ap (form_of p) (take_rest xs c.args.n) in
     record {
-      value = λ k. record { coefs = c.coefficients-of-coefs.ensures.value k; form = f k; div = pos 1 };
-      sound = sound-one c.coefficients-of-coefs.result c.form-of-form.result c.coefficients-of-coefs.ensures.small c.form-of-form.ensures.small;
+      value = λ k. record { coefs = c.coefficients_of-coefs.ensures.value k; form = f k; div = pos 1 };
+      sound = sound-one c.coefficients_of-coefs.result c.form_of-form.result c.coefficients_of-coefs.ensures.small c.form_of-form.ensures.small;
     }

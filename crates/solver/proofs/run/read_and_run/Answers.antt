@@ -12,18 +12,18 @@ use Rattle.solver.proofs.Running.{fuel-above, fuel-below, fuel-within, solved-ru
 use Rattle.solver.proofs.run.read_and_run.Goals as goal
 use Rattle.solver.proofs.run.read_and_run.Goals.{then-fuel-lt0-via-then-fuel-lt0, then-fuel-lt0-via-else-fuel-lt0+then-fuel-gt-FUEL}
 
-pub returns-in-err-state : goal.returns-in-err-state
-returns-in-err-state g c =
+pub returns-in_err-state : goal.returns-in_err-state
+returns-in_err-state g c =
     let S = g.S.Source.meaning c.args.source.now in
     let w = c.args.work.now in
-    let p = err_from_is_err_and c.from-residual.result c.from-residual.ensures.1 in
+    let p = err_from_is_err_and c.from_residual.result c.from_residual.ensures.1 in
     let e = p.1 ∙ ap Err p.2 in
-    record { value = subst (λ r. Rooted w (Head S.n S.p ∷ map Keep (context_of S)) w r (solved S c.args.fuel (length w))) (sym e) (solved-unfit S c.args.fuel (length w) c.in-err-state.field-0.0 c.in-err-state.ensures.answer) }
+    record { value = subst (λ r. Rooted w (Head S.n S.p ∷ map Keep (context_of S)) w r (solved S c.args.fuel (length w))) (sym e) (solved-unfit S c.args.fuel (length w) c.in_err-state.field-0.0 c.in_err-state.ensures.answer) }
 
 pub returns-then-fuel-lt0 : goal.returns-then-fuel-lt0
 returns-then-fuel-lt0 g c =
     let S = g.S.Source.meaning c.args.source.now in
-    let st = c.in-ok-state.ensures.answer in
+    let st = c.in_ok-state.ensures.answer in
     let fit = to_z-of_z w64 c.args.fuel c.ranges.fuel in
     let bad : fuel_fits c.args.fuel ≡ Err Fuel =
     elim c.then-fuel-lt0.branch [
@@ -35,11 +35,11 @@ returns-then-fuel-lt0 g c =
 pub returns : goal.returns
 returns g c =
     let S = g.S.Source.meaning c.args.source.now in
-    let x = c.in-ok-state.state in
-    let st = c.in-ok-state.ensures.answer in
+    let x = c.in_ok-state.state in
+    let st = c.in_ok-state.ensures.answer in
     let w = c.args.work.now in
-    let z = c.run-state.new.work in
-    let r = c.run-state.result in
+    let z = c.run_state.new.work in
+    let r = c.run_state.result in
     let fit = to_z-of_z w64 c.args.fuel c.ranges.fuel in
     let zero : Count = record { steps = 0; nodes = 0 } in
     let head : Head x.table.unknowns x.context.parameters ∷ map Keep (in_force x.context) ≡ Head S.n S.p ∷ map Keep (context_of S) =
@@ -49,5 +49,5 @@ returns g c =
       value = subst (Rooted w (Head S.n S.p ∷ map Keep (context_of S)) z r) (sym (solved-runs S c.args.fuel (length w) st.0 fits))
           (subst (λ ns. Rooted w ns z r (run (start S) (limits (nat_abs c.args.fuel) (length w)) zero)) head
           (subst (λ s. Rooted w (Head x.table.unknowns x.context.parameters ∷ map Keep (in_force x.context)) z r (run s (limits (nat_abs c.args.fuel) (length w)) zero)) st.1
-          (subst (λ f. Rooted w (Head x.table.unknowns x.context.parameters ∷ map Keep (in_force x.context)) z r (run (work_of x) (limits (nat_abs f) (length w)) zero)) fit c.run-state.ensures.value)));
+          (subst (λ f. Rooted w (Head x.table.unknowns x.context.parameters ∷ map Keep (in_force x.context)) z r (run (work_of x) (limits (nat_abs f) (length w)) zero)) fit c.run_state.ensures.value)));
     }

@@ -11,63 +11,63 @@ use Rattle.solver.proofs.Running.{rooted, run-broken, run-full, run-keeps-full, 
 use Rattle.solver.proofs.Writing.{noted-from}
 use Rattle.solver.proofs.run.run_state.Goals as goal
 
-pub returns-in-err-met : goal.returns-in-err-met
-returns-in-err-met c =
+pub returns-in_err-met : goal.returns-in_err-met
+returns-in_err-met c =
     let x = c.args.state.now in
     let w = c.args.work.now in
     let l = limits c.args.fuel (length w) in
     let zero : Count = record { steps = 0; nodes = 0 } in
-    let p = err_from_is_err_and c.from-residual.result c.from-residual.ensures.1 in
+    let p = err_from_is_err_and c.from_residual.result c.from_residual.ensures.1 in
     let e = p.1 ∙ ap Err p.2 in
     record {
       value = subst (λ r. Rooted w (Head x.table.unknowns x.context.parameters ∷ map Keep (in_force x.context)) w r (run (work_of x) l zero)) (sym e)
-          (run-broken (work_of x) l zero c.in-err-met.field-0.0 (c.test.ensures.value (length w) ∙ c.in-err-met.was));
-      stepped = IfOk-from_err _ _ c.from-residual.ensures.0;
+          (run-broken (work_of x) l zero c.in_err-met.field-0.0 (c.test.ensures.value (length w) ∙ c.in_err-met.was));
+      stepped = IfOk-from_err _ _ c.from_residual.ensures.0;
     }
 
 pub returns-then-not-met : goal.returns-then-not-met
 returns-then-not-met c =
     let x = c.args.state.now in
     let w = c.args.work.now in
-    let k = c.in-ok-met.count in
+    let k = c.in_ok-met.count in
     record {
-      value = run-unmet (work_of x) (limits c.args.fuel (length w)) (record { steps = 0; nodes = 0 }) k (c.test.ensures.value (length w) ∙ c.in-ok-met.was ∙ ap (λ b. Ok (b, k)) c.if-not-met.true);
+      value = run-unmet (work_of x) (limits c.args.fuel (length w)) (record { steps = 0; nodes = 0 }) k (c.test.ensures.value (length w) ∙ c.in_ok-met.was ∙ ap (λ b. Ok (b, k)) c.if-not-met.true);
       stepped = tt;
     }
 
-pub returns-in-err-count : goal.returns-in-err-count
-returns-in-err-count c =
+pub returns-in_err-count : goal.returns-in_err-count
+returns-in_err-count c =
     let x = c.args.state.now in
     let w = c.args.work.now in
     let l = limits c.args.fuel (length w) in
     let zero : Count = record { steps = 0; nodes = 0 } in
-    let d = c.in-ok-met.count in
-    let met = c.test.ensures.value (length w) ∙ c.in-ok-met.was ∙ ap (λ b. Ok (b, d)) c.if-not-met.false in
-    let p = err_from_is_err_and c.from-residual-in-err-count.result c.from-residual-in-err-count.ensures.1 in
+    let d = c.in_ok-met.count in
+    let met = c.test.ensures.value (length w) ∙ c.in_ok-met.was ∙ ap (λ b. Ok (b, d)) c.if-not-met.false in
+    let p = err_from_is_err_and c.from_residual-in_err-count.result c.from_residual-in_err-count.ensures.1 in
     let e = p.1 ∙ ap Err p.2 in
     record {
       value = subst (λ r. Rooted w (Head x.table.unknowns x.context.parameters ∷ map Keep (in_force x.context)) c.write.new.work r (run (work_of x) l zero)) (sym e)
-          (run-full (work_of x) l zero d met c.in-err-count.field-0.0 c.in-err-count.ensures.value);
-      stepped = IfOk-from_err _ _ c.from-residual-in-err-count.ensures.0;
+          (run-full (work_of x) l zero d met c.in_err-count.field-0.0 c.in_err-count.ensures.value);
+      stepped = IfOk-from_err _ _ c.from_residual-in_err-count.ensures.0;
     }
 
-pub returns-in-err-count-2 : goal.returns-in-err-count-2
-returns-in-err-count-2 c =
+pub returns-in_err-count-2 : goal.returns-in_err-count-2
+returns-in_err-count-2 c =
     let x = c.args.state.now in
     let w = c.args.work.now in
     let l = limits c.args.fuel (length w) in
     let zero : Count = record { steps = 0; nodes = 0 } in
-    let d = c.in-ok-met.count in
-    let met = c.test.ensures.value (length w) ∙ c.in-ok-met.was ∙ ap (λ b. Ok (b, d)) c.if-not-met.false in
-    let f = c.in-ok-count.count in
+    let d = c.in_ok-met.count in
+    let met = c.test.ensures.value (length w) ∙ c.in_ok-met.was ∙ ap (λ b. Ok (b, d)) c.if-not-met.false in
+    let f = c.in_ok-count.count in
     let long : length c.write.new.work ≡ length w = search rules in
-    let p = err_from_is_err_and c.from-residual-in-err-count-2.result c.from-residual-in-err-count-2.ensures.1 in
+    let p = err_from_is_err_and c.from_residual-in_err-count-2.result c.from_residual-in_err-count-2.ensures.1 in
     let e = p.1 ∙ ap Err p.2 in
     record {
-      value = subst (λ r. Rooted w (Head x.table.unknowns x.context.parameters ∷ map Keep (in_force x.context)) c.write-keeps.new.work r (run (work_of x) l zero)) (sym e)
-          (run-keeps-full (work_of x) l zero d met f c.in-ok-count.ensures.value c.in-err-count-2.field-0.0
-          (ap (λ n. keeps (in_force x.context) (limits c.args.fuel n) f) (sym long) ∙ c.write-keeps.ensures.value c.args.fuel ∙ ap counted c.in-err-count-2.was));
-      stepped = IfOk-from_err _ _ c.from-residual-in-err-count-2.ensures.0;
+      value = subst (λ r. Rooted w (Head x.table.unknowns x.context.parameters ∷ map Keep (in_force x.context)) c.write_keeps.new.work r (run (work_of x) l zero)) (sym e)
+          (run-keeps-full (work_of x) l zero d met f c.in_ok-count.ensures.value c.in_err-count-2.field-0.0
+          (ap (λ n. keeps (in_force x.context) (limits c.args.fuel n) f) (sym long) ∙ c.write_keeps.ensures.value c.args.fuel ∙ ap counted c.in_err-count-2.was));
+      stepped = IfOk-from_err _ _ c.from_residual-in_err-count-2.ensures.0;
     }
 
 pub returns : goal.returns
@@ -76,14 +76,14 @@ returns c =
     let w = c.args.work.now in
     let l = limits c.args.fuel (length w) in
     let zero : Count = record { steps = 0; nodes = 0 } in
-    let d = c.in-ok-met.count in
-    let met = c.test.ensures.value (length w) ∙ c.in-ok-met.was ∙ ap (λ b. Ok (b, d)) c.if-not-met.false in
-    let f = c.in-ok-count.count in
-    let a = c.in-ok-count.ensures in
-    let k = c.in-ok-count-2.count in
-    let b = c.in-ok-count-2.ensures in
+    let d = c.in_ok-met.count in
+    let met = c.test.ensures.value (length w) ∙ c.in_ok-met.was ∙ ap (λ b. Ok (b, d)) c.if-not-met.false in
+    let f = c.in_ok-count.count in
+    let a = c.in_ok-count.ensures in
+    let k = c.in_ok-count-2.count in
+    let b = c.in_ok-count-2.ensures in
     let w₁ = c.write.new.work in
-    let w₂ = c.write-keeps.new.work in
+    let w₂ = c.write_keeps.new.work in
     let z = c.node.new.work in
     let r = c.node.result in
     let long₁ : length w₁ ≡ length w = search rules in
@@ -92,6 +92,6 @@ returns c =
     let runs = run-kept (work_of x) l zero d met f a.value k (ap (λ n. keeps (in_force x.context) (limits c.args.fuel n) f) (sym long₁) ∙ b.value c.args.fuel) in
     record {
       value = subst (Rooted w (Head x.table.unknowns x.context.parameters ∷ map Keep (in_force x.context)) z r) (sym runs)
-          (rooted w w₁ w₂ z (Head x.table.unknowns x.context.parameters) (map Keep (in_force x.context)) d f k r _ long₁ long₂ c.in-ok-met.ensures.nodes a.value a.left b.left b.nodes (subst (λ n. k.nodes ≤ n) long₁ (b.room (let p = noted-from (length w) d f a.value in let one = ap (λ y. y.nodes) p.1 in omega (arith, one, p.0, long₁)))) P);
+          (rooted w w₁ w₂ z (Head x.table.unknowns x.context.parameters) (map Keep (in_force x.context)) d f k r _ long₁ long₂ c.in_ok-met.ensures.nodes a.value a.left b.left b.nodes (subst (λ n. k.nodes ≤ n) long₁ (b.room (let p = noted-from (length w) d f a.value in let one = ap (λ y. y.nodes) p.1 in omega (arith, one, p.0, long₁)))) P);
       stepped = search rules;
     }

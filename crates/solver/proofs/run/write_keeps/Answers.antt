@@ -9,13 +9,13 @@ use Rattle.solver.proofs.run.write_keeps.Goals as goal
 pub loop-k-init : goal.loop-k-init
 loop-k-init c = kept-none c.args.ctx.now c.args.work.now c.args.start
 
-pub returns-in-err-count : goal.returns-in-err-count
-returns-in-err-count c =
-    let p = err_from_is_err_and c.from-residual.result c.from-residual.ensures.1 in
+pub returns-in_err-count : goal.returns-in_err-count
+returns-in_err-count c =
+    let p = err_from_is_err_and c.from_residual.result c.from_residual.ensures.1 in
     let l = c.loop-k in
     rw (p.1, p.2)
     (record {
-      value = kept-refused c.args.ctx.now c.args.work.now c.args.start l.k l.work l.count l.invariant (search rules) (search rules) c.in-err-count.field-0.0 c.in-err-count.ensures.value;
+      value = kept-refused c.args.ctx.now c.args.work.now c.args.start l.k l.work l.count l.invariant (search rules) (search rules) c.in_err-count.field-0.0 c.in_err-count.ensures.value;
       left = tt;
       nodes = tt;
       room = λ _. tt;
@@ -25,8 +25,8 @@ returns-in-err-count c =
 pub loop-k-preserved : goal.loop-k-preserved
 loop-k-preserved c =
     let l = c.loop-k in
-    let w = c.in-ok-count.ensures in
-    kept_more c.args.ctx.now c.args.work.now c.args.start l.k l.work l.count l.invariant (search rules) (search rules) c.write.new.work c.in-ok-count.count c.narrow.result c.narrow.ensures.value w.value w.left
+    let w = c.in_ok-count.ensures in
+    kept_more c.args.ctx.now c.args.work.now c.args.start l.k l.work l.count l.invariant (search rules) (search rules) c.write.new.work c.in_ok-count.count c.narrow.result c.narrow.ensures.value w.value w.left
 
 pub returns : goal.returns
 returns c =

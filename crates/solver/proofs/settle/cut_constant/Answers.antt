@@ -11,19 +11,19 @@ use Rattle.solver.proofs.Cutting.{cut-plain, once_ticked}
 use Rattle.solver.proofs.Settling.{worked-after}
 use Rattle.solver.proofs.settle.cut_constant.Goals as goal
 
-pub returns-in-err-next : goal.returns-in-err-next
-returns-in-err-next c =
+pub returns-in_err-next : goal.returns-in_err-next
+returns-in_err-next c =
     let x = c.args.state.now in
-    let p = err_from_is_err_and c.from-residual.result c.from-residual.ensures.1 in
+    let p = err_from_is_err_and c.from_residual.result c.from_residual.ensures.1 in
     record {
       value = λ again n.
           cut-plain Node again (work_of x) c.args.x.now c.args.fuel n c.args.count c.requires.few c.requires.constant
-          ∙ ap (λ o. once_ticked o (with_row Node again (work_of x) (in_force x.context) x.context.made (cut_row c.args.x.now None) (limits c.args.fuel n))) (sym c.tick.ensures.value ∙ c.in-err-next.was)
+          ∙ ap (λ o. once_ticked o (with_row Node again (work_of x) (in_force x.context) x.context.made (cut_row c.args.x.now None) (limits c.args.fuel n))) (sym c.tick.ensures.value ∙ c.in_err-next.was)
           ∙ sym (ap (λ r. next (worked x r) again (limits c.args.fuel n)) (p.1 ∙ ap Err p.2));
-      ready = IfOk-from_err _ _ c.from-residual.ensures.0;
+      ready = IfOk-from_err _ _ c.from_residual.ensures.0;
       left = refl;
-      nodes = IfOk-from_err _ _ c.from-residual.ensures.0;
-      moved = IfOk-from_err _ _ c.from-residual.ensures.0;
+      nodes = IfOk-from_err _ _ c.from_residual.ensures.0;
+      moved = IfOk-from_err _ _ c.from_residual.ensures.0;
     }
 
 pub returns : goal.returns
@@ -32,10 +32,10 @@ returns c =
     record {
       value = λ again n.
           cut-plain Node again (work_of x) c.args.x.now c.args.fuel n c.args.count c.requires.few c.requires.constant
-          ∙ ap (λ o. once_ticked o (with_row Node again (work_of x) (in_force x.context) x.context.made (cut_row c.args.x.now None) (limits c.args.fuel n))) (sym c.in-ok-next.ensures.value)
-          ∙ ap (λ r. with_row Node again (work_of x) (in_force x.context) x.context.made r (limits c.args.fuel n) c.in-ok-next.next) (sym c.row.ensures.value)
-          ∙ c.add-row.ensures.value again (work_of x) (in_force x.context) x.context.made n
-          ∙ ap (λ o. next o again (limits c.args.fuel n)) (worked-after x x.context c.add-row.new.t c.add-row.result);
+          ∙ ap (λ o. once_ticked o (with_row Node again (work_of x) (in_force x.context) x.context.made (cut_row c.args.x.now None) (limits c.args.fuel n))) (sym c.in_ok-next.ensures.value)
+          ∙ ap (λ r. with_row Node again (work_of x) (in_force x.context) x.context.made r (limits c.args.fuel n) c.in_ok-next.next) (sym c.row.ensures.value)
+          ∙ c.add_row.ensures.value again (work_of x) (in_force x.context) x.context.made n
+          ∙ ap (λ o. next o again (limits c.args.fuel n)) (worked-after x x.context c.add_row.new.t c.add_row.result);
       ready = search rules;
       left = refl;
       nodes = search rules;

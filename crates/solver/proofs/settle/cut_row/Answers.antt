@@ -28,19 +28,19 @@ returns-then-state-ge-CUTS c =
       moved = tt;
     }
 
-pub returns-then-is-constant : goal.returns-then-is-constant
-returns-then-is-constant c =
+pub returns-then-is_constant : goal.returns-then-is_constant
+returns-then-is_constant c =
     let x = c.args.state.now in
     let w = c.args.work.now in
     record {
       value = (
         [],
-        noted-none w c.args.count c.cut-constant.result c.cut-constant.ensures.nodes,
-        λ again. ap (λ k. cut Node again (work_of x) k (limits c.args.fuel (length w)) c.args.count) (sym c.cut-of-x.ensures.value) ∙ c.cut-constant.ensures.value again (length w),
+        noted-none w c.args.count c.cut_constant.result c.cut_constant.ensures.nodes,
+        λ again. ap (λ k. cut Node again (work_of x) k (limits c.args.fuel (length w)) c.args.count) (sym c.cut_of-x.ensures.value) ∙ c.cut_constant.ensures.value again (length w),
       );
-      ready = c.cut-constant.ensures.ready;
-      left = c.cut-constant.ensures.left;
-      moved = c.cut-constant.ensures.moved;
+      ready = c.cut_constant.ensures.ready;
+      left = c.cut_constant.ensures.left;
+      moved = c.cut_constant.ensures.moved;
     }
 
 pub returns-then-state-ge-NEW : goal.returns-then-state-ge-NEW
@@ -53,7 +53,7 @@ returns-then-state-ge-NEW c =
         [],
         tt,
         λ again.
-            cut-fifth again (work_of x) (cut_of row) c.args.fuel (length w) c.args.count (omega (arith, c.requires.ready.cuts)) (ap is_constant (sym c.cut-of-x.ensures.value) ∙ sym c.if-is-constant.ensures) (omega (arith, c.requires.ready.context.new))
+            cut-fifth again (work_of x) (cut_of row) c.args.fuel (length w) c.args.count (omega (arith, c.requires.ready.cuts)) (ap is_constant (sym c.cut_of-x.ensures.value) ∙ sym c.if-is_constant.ensures) (omega (arith, c.requires.ready.context.new))
             ∙ ap Err (ap (λ m. cond (ltb c.args.count.steps c.args.fuel) (NewParameters m) (FuelSpent (met_at Node c.args.count))) (sym c.met-then-state-ge-NEW.ensures) ∙ sym c.barred-then-state-ge-NEW.ensures.value),
       );
       ready = tt;
@@ -64,15 +64,15 @@ returns-then-state-ge-NEW c =
 pub returns : goal.returns
 returns c =
     let x = c.args.state.now in
-    let k = c.cut-of-x.result in
+    let k = c.cut_of-x.result in
     let w = c.args.work.now in
     record {
       value = (
         (k.div, k.form) ∷ [],
-        c.cut-parameter.ensures.noted,
-        λ again. ap (λ k. cut Node again (work_of x) k (limits c.args.fuel (length w)) c.args.count) (sym c.cut-of-x.ensures.value) ∙ c.cut-parameter.ensures.value again,
+        c.cut_parameter.ensures.noted,
+        λ again. ap (λ k. cut Node again (work_of x) k (limits c.args.fuel (length w)) c.args.count) (sym c.cut_of-x.ensures.value) ∙ c.cut_parameter.ensures.value again,
       );
-      ready = c.cut-parameter.ensures.ready;
-      left = c.cut-parameter.ensures.left;
-      moved = c.cut-parameter.ensures.moved;
+      ready = c.cut_parameter.ensures.ready;
+      left = c.cut_parameter.ensures.left;
+      moved = c.cut_parameter.ensures.moved;
     }

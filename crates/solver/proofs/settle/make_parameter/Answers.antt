@@ -12,19 +12,19 @@ use Rattle.solver.specs.Ends.{NewMade}
 use Rattle.solver.proofs.Keeping.{state-new}
 use Rattle.solver.proofs.settle.make_parameter.Goals as goal
 
-pub overflow-cast-by : goal.overflow-cast-by
-overflow-cast-by c = let s = c.requires.sound in omega (arith, ints, s.below, s.form_low 0, s.form_high 0)
+pub overflow_cast-by : goal.overflow_cast-by
+overflow_cast-by c = let s = c.requires.sound in omega (arith, ints, s.below, s.form_low 0, s.form_high 0)
 
-pub returns-in-err-count : goal.returns-in-err-count
-returns-in-err-count c =
-    let p = err_from_is_err_and c.from-residual.result c.from-residual.ensures.1 in
+pub returns-in_err-count : goal.returns-in_err-count
+returns-in_err-count c =
+    let p = err_from_is_err_and c.from_residual.result c.from_residual.ensures.1 in
     let x = c.args.state.now in
     record {
-      value = subst (NewMade x c.args.by.now c.args.work.now c.args.count x c.write.new.work) (sym (p.1 ∙ ap Err p.2)) (inl c.in-err-count.ensures.value);
-      ready = IfOk-from_err _ _ c.from-residual.ensures.0;
+      value = subst (NewMade x c.args.by.now c.args.work.now c.args.count x c.write.new.work) (sym (p.1 ∙ ap Err p.2)) (inl c.in_err-count.ensures.value);
+      ready = IfOk-from_err _ _ c.from_residual.ensures.0;
       table = refl;
       counts = (refl, refl);
-      steps = IfOk-from_err _ _ c.from-residual.ensures.0;
+      steps = IfOk-from_err _ _ c.from_residual.ensures.0;
     }
 
 pub returns-then-not-both : goal.returns-then-not-both
@@ -34,7 +34,7 @@ returns-then-not-both c =
     let l : within (lower c.args.by.now q) ≡ c.join-low.result = ap within (sym c.lower-floor.ensures.value) ∙ sym c.join-low.ensures.answer in
     let h : within (upper c.args.by.now q) ≡ c.join-high.result = ap within (sym c.upper-ceiling.ensures.value) ∙ sym c.join-high.ensures.answer in
     record {
-      value = inr (c.in-ok-count.count, c.in-ok-count.ensures.value, ap (λ b. b && within (upper c.args.by.now q)) l ∙ ap (λ b. c.join-low.result && b) h ∙ sym c.both.ensures.value ∙ c.if-not-both.true, ap Range c.met.ensures);
+      value = inr (c.in_ok-count.count, c.in_ok-count.ensures.value, ap (λ b. b && within (upper c.args.by.now q)) l ∙ ap (λ b. c.join-low.result && b) h ∙ sym c.both.ensures.value ∙ c.if-not-both.true, ap Range c.met.ensures);
       ready = tt;
       table = refl;
       counts = (refl, refl);
@@ -60,12 +60,12 @@ returns c =
     let d : to_z w32 (of_z w32 (to_z w64 (of_z w64 by.div))) ≡ by.div = omega (arith, ints, s.below, s.form_low 0, s.form_high 0) in
     record {
       value = (
-        c.in-ok-count.ensures.value,
+        c.in_ok-count.ensures.value,
         ap (λ b. b && within (upper by q)) l ∙ ap (λ b. c.join-low.result && b) h ∙ sym c.both.ensures.value ∙ c.if-not-both.false,
         second ∙ ap (λ fs. fs ++ upper by q ∷ []) first ∙ append_assoc (in_force x.context) (lower by q ∷ []) (upper by q ∷ []),
         c.join-high.ensures.counts.1 ∙ c.join-low.ensures.counts.1,
         add-one Y.made ∙ ap (λ n. suc n) (c.join-high.ensures.counts.2 ∙ c.join-low.ensures.counts.2),
-        c.in-ok-count.ensures.left ∙ ap (λ v. take c.args.count.nodes c.args.work.now ++ v ∷ drop (c.args.count.nodes + 1) c.args.work.now) (ap (λ z. New z c.narrow.result) d ∙ ap (New by.div) c.narrow.ensures.value),
+        c.in_ok-count.ensures.left ∙ ap (λ v. take c.args.count.nodes c.args.work.now ++ v ∷ drop (c.args.count.nodes + 1) c.args.work.now) (ap (λ z. New z c.narrow.result) d ∙ ap (New by.div) c.narrow.ensures.value),
       );
       ready =
           state-new x Y c.requires.ready c.requires.new c.join-high.ensures.ready

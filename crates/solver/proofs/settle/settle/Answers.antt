@@ -27,61 +27,61 @@ loop-found-init c = (
   refl,
 )
 
-pub returns-in-err-found : goal.returns-in-err-found
-returns-in-err-found c =
+pub returns-in_err-found : goal.returns-in_err-found
+returns-in_err-found c =
     let x = c.loop-found.state in
-    let y = c.scan-rows.new.ctx in
+    let y = c.scan_rows.new.ctx in
     let i = c.loop-found.invariant in
     let n = i.3 in
     let g = gas-less n.2.0 c.args.fuel c.loop-found.count.steps n.2.1 i.2.within in
     let l = limits c.args.fuel (length c.args.work.now) in
-    let p = err_from_is_err_and c.from-residual.result c.from-residual.ensures.1 in
+    let p = err_from_is_err_and c.from_residual.result c.from_residual.ensures.1 in
     let z : State = record { table = x.table; context = y; cuts = x.cuts; left = x.left } in
     record {
-      value = settled-refused c.args.fuel c.args.state.now c.args.work.now c.loop-found.work c.args.start n.0 z c.from-residual.result c.in-err-found.field-0.0 (p.1 ∙ ap Err p.2)
+      value = settled-refused c.args.fuel c.args.state.now c.args.work.now c.loop-found.work c.args.start n.0 z c.from_residual.result c.in_err-found.field-0.0 (p.1 ∙ ap Err p.2)
           (λ splits. n.2.2 splits ∙ ap (below_all n.0)
-          (node-broken splits n.2.0 g.0 g.1 x i.0.table.inside l c.loop-found.count c.scan-rows.result (c.scan-rows.ensures.value (work_of x) (length c.args.work.now) (work-known x)) c.in-err-found.field-0.0 c.in-err-found.was));
-      ready = IfOk-from_err _ _ c.from-residual.ensures.0;
+          (node-broken splits n.2.0 g.0 g.1 x i.0.table.inside l c.loop-found.count c.scan_rows.result (c.scan_rows.ensures.value (work_of x) (length c.args.work.now) (work-known x)) c.in_err-found.field-0.0 c.in_err-found.was));
+      ready = IfOk-from_err _ _ c.from_residual.ensures.0;
       left = i.1;
-      inside = IfOk-from_err _ _ c.from-residual.ensures.0;
-      stepped = IfOk-from_err _ _ c.from-residual.ensures.0;
+      inside = IfOk-from_err _ _ c.from_residual.ensures.0;
+      stepped = IfOk-from_err _ _ c.from_residual.ensures.0;
     }
 
-pub returns-in-err-count : goal.returns-in-err-count
-returns-in-err-count c =
+pub returns-in_err-count-in-Some : goal.returns-in_err-count-in-Some
+returns-in_err-count-in-Some c =
     let x = c.loop-found.state in
-    let y = c.scan-rows.new.ctx in
+    let y = c.scan_rows.new.ctx in
     let i = c.loop-found.invariant in
     let n = i.3 in
     let g = gas-less n.2.0 c.args.fuel c.loop-found.count.steps n.2.1 i.2.within in
-    let s = c.in-ok-found.ensures in
-    let d = c.in-ok-found.next in
+    let s = c.in_ok-found.ensures in
+    let d = c.in_ok-found.next in
     let l = limits c.args.fuel (length c.args.work.now) in
-    let p = err_from_is_err_and c.from-residual-in-err-count.result c.from-residual-in-err-count.ensures.1 in
+    let p = err_from_is_err_and c.from_residual-in_err-count-in-Some.result c.from_residual-in_err-count-in-Some.ensures.1 in
     let z : State = record { table = c.turn.new.t; context = y; cuts = x.cuts; left = x.left } in
     record {
-      value = settled-refused c.args.fuel c.args.state.now c.args.work.now c.loop-found.work c.args.start n.0 z c.from-residual-in-err-count.result c.in-err-count.field-0.0 (p.1 ∙ ap Err p.2)
+      value = settled-refused c.args.fuel c.args.state.now c.args.work.now c.loop-found.work c.args.start n.0 z c.from_residual-in_err-count-in-Some.result c.in_err-count-in-Some.field-0.0 (p.1 ∙ ap Err p.2)
           (λ splits. n.2.2 splits ∙ ap (below_all n.0)
-          (node-turn splits n.2.0 g.0 g.1 x i.0.table.inside l c.loop-found.count c.scan-rows.result (c.scan-rows.ensures.value (work_of x) (length c.args.work.now) (work-known x)) c.in-Negative.i d (c.in-ok-found.was ∙ ap (λ f. Ok (f, d)) c.in-Negative.is) c.in-Some.at c.in-Some.ensures.value (Err c.in-err-count.field-0.0)
-          (c.turn.ensures.value (work_of x) (length c.args.work.now) ∙ ap (moved c.turn.new.t (work_of x)) c.in-err-count.was)));
-      ready = IfOk-from_err _ _ c.from-residual-in-err-count.ensures.0;
+          (node-turn splits n.2.0 g.0 g.1 x i.0.table.inside l c.loop-found.count c.scan_rows.result (c.scan_rows.ensures.value (work_of x) (length c.args.work.now) (work-known x)) c.in-Negative.i d (c.in_ok-found.was ∙ ap (λ f. Ok (f, d)) c.in-Negative.is) c.in-Some.at c.in-Some.ensures.value (Err c.in_err-count-in-Some.field-0.0)
+          (c.turn.ensures.value (work_of x) (length c.args.work.now) ∙ ap (moved c.turn.new.t (work_of x)) c.in_err-count-in-Some.was)));
+      ready = IfOk-from_err _ _ c.from_residual-in_err-count-in-Some.ensures.0;
       left = i.1;
-      inside = IfOk-from_err _ _ c.from-residual-in-err-count.ensures.0;
-      stepped = IfOk-from_err _ _ c.from-residual-in-err-count.ensures.0;
+      inside = IfOk-from_err _ _ c.from_residual-in_err-count-in-Some.ensures.0;
+      stepped = IfOk-from_err _ _ c.from_residual-in_err-count-in-Some.ensures.0;
     }
 
 pub loop-found-preserved-in-Some : goal.loop-found-preserved-in-Some
 loop-found-preserved-in-Some c =
     let x = c.loop-found.state in
-    let y = c.scan-rows.new.ctx in
+    let y = c.scan_rows.new.ctx in
     let i = c.loop-found.invariant in
     let n = i.3 in
     let g = gas-less n.2.0 c.args.fuel c.loop-found.count.steps n.2.1 i.2.within in
-    let s = c.in-ok-found.ensures in
-    let d = c.in-ok-found.next in
+    let s = c.in_ok-found.ensures in
+    let d = c.in_ok-found.next in
     let l = limits c.args.fuel (length c.args.work.now) in
-    let t = c.in-ok-count.ensures in
-    let k = c.in-ok-count.count in
+    let t = c.in_ok-count-in-Some.ensures in
+    let k = c.in_ok-count-in-Some.count in
     let u = c.turn.new.t in (
       state-turned x u y i.0 t.ready t.counts s.kept,
       i.1,
@@ -93,7 +93,7 @@ loop-found-preserved-in-Some c =
           g.0,
           omega (arith, g.1, n.2.1, s.stepped.more, t.moved.more),
           λ splits. n.2.2 splits ∙ ap (below_all n.0)
-              (node-turn splits n.2.0 g.0 g.1 x i.0.table.inside l c.loop-found.count c.scan-rows.result (c.scan-rows.ensures.value (work_of x) (length c.args.work.now) (work-known x)) c.in-Negative.i d (c.in-ok-found.was ∙ ap (λ f. Ok (f, d)) c.in-Negative.is) c.in-Some.at c.in-Some.ensures.value (moved u (work_of x) (Ok k)) (t.value (work_of x) (length c.args.work.now))
+              (node-turn splits n.2.0 g.0 g.1 x i.0.table.inside l c.loop-found.count c.scan_rows.result (c.scan_rows.ensures.value (work_of x) (length c.args.work.now) (work-known x)) c.in-Negative.i d (c.in_ok-found.was ∙ ap (λ f. Ok (f, d)) c.in-Negative.is) c.in-Some.at c.in-Some.ensures.value (moved u (work_of x) (Ok k)) (t.value (work_of x) (length c.args.work.now))
               ∙ ap (λ w. settle (solving splits) g.0 w l k) (sym (work-turned x y u s.kept))),
         ),
       ),
@@ -103,16 +103,16 @@ loop-found-preserved-in-Some c =
 pub returns-in-None : goal.returns-in-None
 returns-in-None c =
     let x = c.loop-found.state in
-    let y = c.scan-rows.new.ctx in
+    let y = c.scan_rows.new.ctx in
     let i = c.loop-found.invariant in
     let n = i.3 in
     let g = gas-less n.2.0 c.args.fuel c.loop-found.count.steps n.2.1 i.2.within in
-    let s = c.in-ok-found.ensures in
+    let s = c.in_ok-found.ensures in
     let l = limits c.args.fuel (length c.args.work.now) in
-    let d = c.in-ok-found.next in
+    let d = c.in_ok-found.next in
     record {
       value = settled-end c.args.fuel c.args.state.now c.args.work.now c.loop-found.work c.args.start n.0 n.2.0 x y c.loop-found.count d NoPoint n.1 s.nodes s.kept n.2.2
-          (λ splits. node-none splits n.2.0 g.0 g.1 x i.0.table.inside l c.loop-found.count c.scan-rows.result (c.scan-rows.ensures.value (work_of x) (length c.args.work.now) (work-known x)) c.in-Negative.i d (c.in-ok-found.was ∙ ap (λ f. Ok (f, d)) c.in-Negative.is) c.in-None.ensures.value);
+          (λ splits. node-none splits n.2.0 g.0 g.1 x i.0.table.inside l c.loop-found.count c.scan_rows.result (c.scan_rows.ensures.value (work_of x) (length c.args.work.now) (work-known x)) c.in-Negative.i d (c.in_ok-found.was ∙ ap (λ f. Ok (f, d)) c.in-Negative.is) c.in-None.ensures.value);
       ready = state-scanned x y i.0 s.kept;
       left = i.1;
       inside = tt;
@@ -122,70 +122,70 @@ returns-in-None c =
 pub returns-in-Unsure : goal.returns-in-Unsure
 returns-in-Unsure c =
     let x = c.loop-found.state in
-    let y = c.scan-rows.new.ctx in
+    let y = c.scan_rows.new.ctx in
     let i = c.loop-found.invariant in
     let n = i.3 in
     let g = gas-less n.2.0 c.args.fuel c.loop-found.count.steps n.2.1 i.2.within in
-    let s = c.in-ok-found.ensures in
-    let d = c.in-ok-found.next in
+    let s = c.in_ok-found.ensures in
+    let d = c.in_ok-found.next in
     let l = limits c.args.fuel (length c.args.work.now) in
     record {
       value = settled-end c.args.fuel c.args.state.now c.args.work.now c.loop-found.work c.args.start n.0 n.2.0 x y c.loop-found.count d (Split c.in-Unsure.h) n.1 s.nodes s.kept n.2.2
-          (λ splits. node-split splits n.2.0 g.0 g.1 x i.0.table.inside l c.loop-found.count c.scan-rows.result (c.scan-rows.ensures.value (work_of x) (length c.args.work.now) (work-known x)) c.in-Unsure.h d (c.in-ok-found.was ∙ ap (λ f. Ok (f, d)) c.in-Unsure.is));
+          (λ splits. node-split splits n.2.0 g.0 g.1 x i.0.table.inside l c.loop-found.count c.scan_rows.result (c.scan_rows.ensures.value (work_of x) (length c.args.work.now) (work-known x)) c.in-Unsure.h d (c.in_ok-found.was ∙ ap (λ f. Ok (f, d)) c.in-Unsure.is));
       ready = state-scanned x y i.0 s.kept;
       left = i.1;
       inside = search rules;
       stepped = record { more = omega (arith, i.2.more, s.stepped.more); within = s.stepped.within };
     }
 
-pub cut-row-requires : goal.cut-row-requires
-cut-row-requires c =
+pub cut_row-requires : goal.cut_row-requires
+cut_row-requires c =
     let i = c.loop-found.invariant in
-    let s = c.in-ok-found.ensures in
-    record { ready = state-scanned c.loop-found.state c.scan-rows.new.ctx i.0 s.kept; row = search rules }
+    let s = c.in_ok-found.ensures in
+    record { ready = state-scanned c.loop-found.state c.scan_rows.new.ctx i.0 s.kept; row = search rules }
 
-pub returns-in-err-count-2 : goal.returns-in-err-count-2
-returns-in-err-count-2 c =
+pub returns-in_err-count-in-Some-first_fraction : goal.returns-in_err-count-in-Some-first_fraction
+returns-in_err-count-in-Some-first_fraction c =
     let x = c.loop-found.state in
-    let y = c.scan-rows.new.ctx in
+    let y = c.scan_rows.new.ctx in
     let i = c.loop-found.invariant in
     let n = i.3 in
     let g = gas-less n.2.0 c.args.fuel c.loop-found.count.steps n.2.1 i.2.within in
-    let s = c.in-ok-found.ensures in
-    let d = c.in-ok-found.next in
+    let s = c.in_ok-found.ensures in
+    let d = c.in_ok-found.next in
     let l = limits c.args.fuel (length c.args.work.now) in
-    let p = err_from_is_err_and c.from-residual-in-err-count-2.result c.from-residual-in-err-count-2.ensures.1 in
+    let p = err_from_is_err_and c.from_residual-in_err-count-in-Some-first_fraction.result c.from_residual-in_err-count-in-Some-first_fraction.ensures.1 in
     let z : State = record { table = x.table; context = y; cuts = x.cuts; left = x.left } in
-    let row = get_or x.table.rows c.in-Some-first-fraction.h no_row in
-    let q = c.in-err-count-2.ensures.value in
+    let row = get_or x.table.rows c.in-Some-first_fraction.h no_row in
+    let q = c.in_err-count-in-Some-first_fraction.ensures.value in
     record {
-      value = settled-refused c.args.fuel c.args.state.now c.args.work.now c.cut-row.new.work c.args.start (n.0 ++ q.0) c.cut-row.new.state c.from-residual-in-err-count-2.result c.in-err-count-2.field-0.0 (p.1 ∙ ap Err p.2)
+      value = settled-refused c.args.fuel c.args.state.now c.args.work.now c.cut_row.new.work c.args.start (n.0 ++ q.0) c.cut_row.new.state c.from_residual-in_err-count-in-Some-first_fraction.result c.in_err-count-in-Some-first_fraction.field-0.0 (p.1 ∙ ap Err p.2)
           (λ splits. n.2.2 splits ∙ ap (below_all n.0)
-          (node-cut splits n.2.0 g.0 g.1 x i.0.table.inside l c.loop-found.count c.scan-rows.result (c.scan-rows.ensures.value (work_of x) (length c.args.work.now) (work-known x)) d (c.in-ok-found.was ∙ ap (λ f. Ok (f, d)) c.in-Clear.is) c.in-Some-first-fraction.h c.in-Some-first-fraction.ensures.inside c.in-Some-first-fraction.ensures.value
+          (node-cut splits n.2.0 g.0 g.1 x i.0.table.inside l c.loop-found.count c.scan_rows.result (c.scan_rows.ensures.value (work_of x) (length c.args.work.now) (work-known x)) d (c.in_ok-found.was ∙ ap (λ f. Ok (f, d)) c.in-Clear.is) c.in-Some-first_fraction.h c.in-Some-first_fraction.ensures.inside c.in-Some-first_fraction.ensures.value
           ∙ ap (λ s. cut Node (settle (solving splits) g.0) s (cut_of row) l d) (sym (work-same x y s.kept))
           ∙ ap (λ n. cut Node (settle (solving splits) g.0) (work_of z) (cut_of row) (limits c.args.fuel n) d) (sym i.4)
           ∙ q.2 (settle (solving splits) g.0)
-          ∙ ap (λ n. below_all q.0 (next (worked c.cut-row.new.state (Err c.in-err-count-2.field-0.0)) (settle (solving splits) g.0) (limits c.args.fuel n))) i.4)
+          ∙ ap (λ n. below_all q.0 (next (worked c.cut_row.new.state (Err c.in_err-count-in-Some-first_fraction.field-0.0)) (settle (solving splits) g.0) (limits c.args.fuel n))) i.4)
           ∙ below-join n.0 q.0 _);
-      ready = IfOk-from_err _ _ c.from-residual-in-err-count-2.ensures.0;
-      left = c.cut-row.ensures.left ∙ i.1;
-      inside = IfOk-from_err _ _ c.from-residual-in-err-count-2.ensures.0;
-      stepped = IfOk-from_err _ _ c.from-residual-in-err-count-2.ensures.0;
+      ready = IfOk-from_err _ _ c.from_residual-in_err-count-in-Some-first_fraction.ensures.0;
+      left = c.cut_row.ensures.left ∙ i.1;
+      inside = IfOk-from_err _ _ c.from_residual-in_err-count-in-Some-first_fraction.ensures.0;
+      stepped = IfOk-from_err _ _ c.from_residual-in_err-count-in-Some-first_fraction.ensures.0;
     }
 
-pub returns-in-None-first-fraction : goal.returns-in-None-first-fraction
-returns-in-None-first-fraction c =
+pub returns-in-None-first_fraction : goal.returns-in-None-first_fraction
+returns-in-None-first_fraction c =
     let x = c.loop-found.state in
-    let y = c.scan-rows.new.ctx in
+    let y = c.scan_rows.new.ctx in
     let i = c.loop-found.invariant in
     let n = i.3 in
     let g = gas-less n.2.0 c.args.fuel c.loop-found.count.steps n.2.1 i.2.within in
-    let s = c.in-ok-found.ensures in
-    let d = c.in-ok-found.next in
+    let s = c.in_ok-found.ensures in
+    let d = c.in_ok-found.next in
     let l = limits c.args.fuel (length c.args.work.now) in
     record {
       value = settled-end c.args.fuel c.args.state.now c.args.work.now c.loop-found.work c.args.start n.0 n.2.0 x y c.loop-found.count d Leaf n.1 s.nodes s.kept n.2.2
-          (λ splits. node-leaf splits n.2.0 g.0 g.1 x i.0.table.inside l c.loop-found.count c.scan-rows.result (c.scan-rows.ensures.value (work_of x) (length c.args.work.now) (work-known x)) d (c.in-ok-found.was ∙ ap (λ f. Ok (f, d)) c.in-Clear.is) c.in-None-first-fraction.ensures.value);
+          (λ splits. node-leaf splits n.2.0 g.0 g.1 x i.0.table.inside l c.loop-found.count c.scan_rows.result (c.scan_rows.ensures.value (work_of x) (length c.args.work.now) (work-known x)) d (c.in_ok-found.was ∙ ap (λ f. Ok (f, d)) c.in-Clear.is) c.in-None-first_fraction.ensures.value);
       ready = state-scanned x y i.0 s.kept;
       left = i.1;
       inside = tt;
@@ -195,33 +195,33 @@ returns-in-None-first-fraction c =
 pub loop-found-preserved : goal.loop-found-preserved
 loop-found-preserved c =
     let x = c.loop-found.state in
-    let y = c.scan-rows.new.ctx in
+    let y = c.scan_rows.new.ctx in
     let i = c.loop-found.invariant in
     let n = i.3 in
     let g = gas-less n.2.0 c.args.fuel c.loop-found.count.steps n.2.1 i.2.within in
-    let s = c.in-ok-found.ensures in
-    let d = c.in-ok-found.next in
+    let s = c.in_ok-found.ensures in
+    let d = c.in_ok-found.next in
     let l = limits c.args.fuel (length c.args.work.now) in
     let z : State = record { table = x.table; context = y; cuts = x.cuts; left = x.left } in
-    let row = get_or x.table.rows c.in-Some-first-fraction.h no_row in
-    let t = c.in-ok-count-2.ensures in
+    let row = get_or x.table.rows c.in-Some-first_fraction.h no_row in
+    let t = c.in_ok-count-in-Some-first_fraction.ensures in
     let q = t.value in
-    let k = c.in-ok-count-2.count in (
+    let k = c.in_ok-count-in-Some-first_fraction.count in (
       t.ready,
       t.left ∙ i.1,
       record { more = omega (arith, i.2.more, s.stepped.more, t.moved.more); within = t.moved.within },
       (
         n.0 ++ q.0,
-        noted-join c.args.work.now c.loop-found.work c.cut-row.new.work c.args.start d k n.0 q.0 i.4 (noted-on c.args.work.now c.loop-found.work c.args.start c.loop-found.count d n.0 n.1 s.nodes) q.1,
+        noted-join c.args.work.now c.loop-found.work c.cut_row.new.work c.args.start d k n.0 q.0 i.4 (noted-on c.args.work.now c.loop-found.work c.args.start c.loop-found.count d n.0 n.1 s.nodes) q.1,
         (
           g.0,
           omega (arith, g.1, n.2.1, s.stepped.more, t.moved.more),
           λ splits. n.2.2 splits ∙ ap (below_all n.0)
-              (node-cut splits n.2.0 g.0 g.1 x i.0.table.inside l c.loop-found.count c.scan-rows.result (c.scan-rows.ensures.value (work_of x) (length c.args.work.now) (work-known x)) d (c.in-ok-found.was ∙ ap (λ f. Ok (f, d)) c.in-Clear.is) c.in-Some-first-fraction.h c.in-Some-first-fraction.ensures.inside c.in-Some-first-fraction.ensures.value
+              (node-cut splits n.2.0 g.0 g.1 x i.0.table.inside l c.loop-found.count c.scan_rows.result (c.scan_rows.ensures.value (work_of x) (length c.args.work.now) (work-known x)) d (c.in_ok-found.was ∙ ap (λ f. Ok (f, d)) c.in-Clear.is) c.in-Some-first_fraction.h c.in-Some-first_fraction.ensures.inside c.in-Some-first_fraction.ensures.value
               ∙ ap (λ s. cut Node (settle (solving splits) g.0) s (cut_of row) l d) (sym (work-same x y s.kept))
               ∙ ap (λ n. cut Node (settle (solving splits) g.0) (work_of z) (cut_of row) (limits c.args.fuel n) d) (sym i.4)
               ∙ q.2 (settle (solving splits) g.0)
-              ∙ ap (λ n. below_all q.0 (next (worked c.cut-row.new.state (Ok k)) (settle (solving splits) g.0) (limits c.args.fuel n))) i.4)
+              ∙ ap (λ n. below_all q.0 (next (worked c.cut_row.new.state (Ok k)) (settle (solving splits) g.0) (limits c.args.fuel n))) i.4)
               ∙ below-join n.0 q.0 _,
         ),
       ),

@@ -5,14 +5,14 @@ use Rattle.std.proofs.lemmas.Int.{to_z-of_z}
 use Rattle.solver.specs.Rules.{none_above}
 use Rattle.solver.proofs.sign.none_above.Goals as goal
 
-pub returns-then-is-above : goal.returns-then-is-above
-returns-then-is-above c =
+pub returns-then-is_above : goal.returns-then-is_above
+returns-then-is_above c =
     let xs = c.args.form.now in
     let i = c.loop-x.x-index in
     let f : SFits w64 (get_or xs i (pos 0)) = search rules in
     let z = to_z-of_z w64 (get_or xs i (pos 0)) f in
-    let v = simp to_z-of_z at c.is-above.ensures.value in
-    let t : le_z (get_or xs i (pos 0)) (pos 0) ≡ false = sym v ∙ ap not c.if-is-above.true in
+    let v = simp to_z-of_z at c.is_above.ensures.value in
+    let t : le_z (get_or xs i (pos 0)) (pos 0) ≡ false = sym v ∙ ap not c.if-is_above.true in
     record { value = sym (sym c.loop-x.invariant ∙ at_drop_more none_above xs i (pos 0) (search rules) ∙ simp t) }
 
 pub loop-x-preserved : goal.loop-x-preserved
@@ -21,8 +21,8 @@ loop-x-preserved c =
     let i = c.loop-x.x-index in
     let f : SFits w64 (get_or xs i (pos 0)) = search rules in
     let z = to_z-of_z w64 (get_or xs i (pos 0)) f in
-    let v = simp to_z-of_z at c.is-above.ensures.value in
-    let t : le_z (get_or xs i (pos 0)) (pos 0) ≡ true = sym v ∙ ap not c.if-is-above.false in
+    let v = simp to_z-of_z at c.is_above.ensures.value in
+    let t : le_z (get_or xs i (pos 0)) (pos 0) ≡ true = sym v ∙ ap not c.if-is_above.false in
     sym (sym c.loop-x.invariant ∙ at_drop_more none_above xs i (pos 0) (search rules) ∙ simp t)
 
 pub returns : goal.returns

@@ -5,14 +5,14 @@ use Rattle.std.proofs.lemmas.Int.{to_z-of_z}
 use Rattle.solver.specs.Rules.{none_below}
 use Rattle.solver.proofs.sign.none_below.Goals as goal
 
-pub returns-then-is-below : goal.returns-then-is-below
-returns-then-is-below c =
+pub returns-then-is_below : goal.returns-then-is_below
+returns-then-is_below c =
     let xs = c.args.form.now in
     let i = c.loop-x.x-index in
     let f : SFits w64 (get_or xs i (pos 0)) = search rules in
     let z = to_z-of_z w64 (get_or xs i (pos 0)) f in
-    let v = simp to_z-of_z at c.is-below.ensures.value in
-    let t : le_z (pos 0) (get_or xs i (pos 0)) ≡ false = sym v ∙ ap not c.if-is-below.true in
+    let v = simp to_z-of_z at c.is_below.ensures.value in
+    let t : le_z (pos 0) (get_or xs i (pos 0)) ≡ false = sym v ∙ ap not c.if-is_below.true in
     record { value = sym (sym c.loop-x.invariant ∙ at_drop_more none_below xs i (pos 0) (search rules) ∙ simp t) }
 
 pub loop-x-preserved : goal.loop-x-preserved
@@ -21,8 +21,8 @@ loop-x-preserved c =
     let i = c.loop-x.x-index in
     let f : SFits w64 (get_or xs i (pos 0)) = search rules in
     let z = to_z-of_z w64 (get_or xs i (pos 0)) f in
-    let v = simp to_z-of_z at c.is-below.ensures.value in
-    let t : le_z (pos 0) (get_or xs i (pos 0)) ≡ true = sym v ∙ ap not c.if-is-below.false in
+    let v = simp to_z-of_z at c.is_below.ensures.value in
+    let t : le_z (pos 0) (get_or xs i (pos 0)) ≡ true = sym v ∙ ap not c.if-is_below.false in
     sym (sym c.loop-x.invariant ∙ at_drop_more none_below xs i (pos 0) (search rules) ∙ simp t)
 
 pub returns : goal.returns

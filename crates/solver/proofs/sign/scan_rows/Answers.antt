@@ -14,8 +14,8 @@ use Rattle.solver.proofs.sign.scan_rows.Goals.{in-NonNegative, in-Unknown}
 pub loop-h-init : goal.loop-h-init
 loop-h-init c = (same_refl c.args.ctx.now, tt, stepped-refl c.args.fuel c.args.start c.requires.within, tt, λ s n k. refl, refl)
 
-pub sign-of-requires : goal.sign-of-requires
-sign-of-requires c =
+pub sign_of-requires : goal.sign_of-requires
+sign_of-requires c =
     let i = c.loop-h.invariant in
     record {
       small = (c.requires.table.sound c.loop-h.h (omega arith)).form_small;
@@ -25,22 +25,22 @@ sign-of-requires c =
       fuel = c.requires.fuel;
     }
 
-pub returns-in-err-s : goal.returns-in-err-s
-returns-in-err-s c =
+pub returns-in_err-s : goal.returns-in_err-s
+returns-in_err-s c =
     let t = c.args.t.now in
     let h = c.loop-h.h in
     let row = get_or t.rows h no_row in
     let i = c.loop-h.invariant in
-    let p = err_from_is_err_and c.from-residual.result c.from-residual.ensures.1 in
+    let p = err_from_is_err_and c.from_residual.result c.from_residual.ensures.1 in
     record {
       value = λ s n k.
           i.4 s n k ∙ used-more (λ rs. remembered t.rows c.loop-h.found (scan (sign_in s) rs (limits c.args.fuel n) c.loop-h.count)) t h c.loop-h-test.true (search rules)
-          ∙ scan-broken (sign_in s) t.rows c.loop-h.found row (drop (h + 1) (in_use t)) (limits c.args.fuel n) c.loop-h.count c.in-err-s.field-0.0 (c.sign-of.ensures.value s n (known_same c.args.ctx.now c.loop-h.ctx s i.0 k) ∙ c.in-err-s.was)
+          ∙ scan-broken (sign_in s) t.rows c.loop-h.found row (drop (h + 1) (in_use t)) (limits c.args.fuel n) c.loop-h.count c.in_err-s.field-0.0 (c.sign_of.ensures.value s n (known_same c.args.ctx.now c.loop-h.ctx s i.0 k) ∙ c.in_err-s.was)
           ∙ sym (ap (scanned_at t.rows) (p.1 ∙ ap Err p.2));
-      kept = same-trans c.args.ctx.now c.loop-h.ctx c.sign-of.new.ctx i.0 c.sign-of.ensures.kept;
-      inside = IfOk-from_err _ _ c.from-residual.ensures.0;
-      nodes = IfOk-from_err _ _ c.from-residual.ensures.0;
-      stepped = IfOk-from_err _ _ c.from-residual.ensures.0;
+      kept = same-trans c.args.ctx.now c.loop-h.ctx c.sign_of.new.ctx i.0 c.sign_of.ensures.kept;
+      inside = IfOk-from_err _ _ c.from_residual.ensures.0;
+      nodes = IfOk-from_err _ _ c.from_residual.ensures.0;
+      stepped = IfOk-from_err _ _ c.from_residual.ensures.0;
     }
 
 pub returns-in-Negative : goal.returns-in-Negative
@@ -52,11 +52,11 @@ returns-in-Negative c =
     record {
       value = λ s n k.
           i.4 s n k ∙ used-more (λ rs. remembered t.rows c.loop-h.found (scan (sign_in s) rs (limits c.args.fuel n) c.loop-h.count)) t h c.loop-h-test.true (search rules)
-          ∙ scan-negative (sign_in s) t.rows c.loop-h.found row (drop (h + 1) (in_use t)) (limits c.args.fuel n) c.loop-h.count c.in-ok-s.next (c.sign-of.ensures.value s n (known_same c.args.ctx.now c.loop-h.ctx s i.0 k) ∙ c.in-ok-s.was ∙ ap (λ x. Ok (x, c.in-ok-s.next)) c.in-Negative.is);
-      kept = same-trans c.args.ctx.now c.loop-h.ctx c.sign-of.new.ctx i.0 c.sign-of.ensures.kept;
+          ∙ scan-negative (sign_in s) t.rows c.loop-h.found row (drop (h + 1) (in_use t)) (limits c.args.fuel n) c.loop-h.count c.in_ok-s.next (c.sign_of.ensures.value s n (known_same c.args.ctx.now c.loop-h.ctx s i.0 k) ∙ c.in_ok-s.was ∙ ap (λ x. Ok (x, c.in_ok-s.next)) c.in-Negative.is);
+      kept = same-trans c.args.ctx.now c.loop-h.ctx c.sign_of.new.ctx i.0 c.sign_of.ensures.kept;
       inside = c.loop-h-test.true;
-      nodes = c.in-ok-s.ensures.nodes ∙ i.5;
-      stepped = stepped-trans c.args.fuel c.args.start c.loop-h.count c.in-ok-s.next i.2 c.in-ok-s.ensures.stepped;
+      nodes = c.in_ok-s.ensures.nodes ∙ i.5;
+      stepped = stepped-trans c.args.fuel c.args.start c.loop-h.count c.in_ok-s.next i.2 c.in_ok-s.ensures.stepped;
     }
 
 pub returns : goal.returns
@@ -79,12 +79,12 @@ loop-h-preserved c =
     let h = c.loop-h.h in
     let row = get_or t.rows h no_row in
     let i = c.loop-h.invariant in
-    let kept = same-trans c.args.ctx.now c.loop-h.ctx c.sign-of.new.ctx i.0 c.sign-of.ensures.kept in
-    let on = stepped-trans c.args.fuel c.args.start c.loop-h.count c.in-ok-s.next i.2 c.in-ok-s.ensures.stepped in
-    let same = c.in-ok-s.ensures.nodes ∙ i.5 in
-    let G : Found → Type 0 = λ f. SameContext c.args.ctx.now c.sign-of.new.ctx × ScanBelow (h + 1) f × Stepped c.args.fuel c.args.start c.in-ok-s.next × NotYet f
-    × ((s : Work) (n : ℕ) → KnownAs c.args.ctx.now s → scan (sign_in s) (in_use t) (limits c.args.fuel n) c.args.start ≡ remembered t.rows f (scan (sign_in s) (drop (h + 1) (in_use t)) (limits c.args.fuel n) c.in-ok-s.next))
-    × (c.in-ok-s.next.nodes ≡ c.args.start.nodes) in
+    let kept = same-trans c.args.ctx.now c.loop-h.ctx c.sign_of.new.ctx i.0 c.sign_of.ensures.kept in
+    let on = stepped-trans c.args.fuel c.args.start c.loop-h.count c.in_ok-s.next i.2 c.in_ok-s.ensures.stepped in
+    let same = c.in_ok-s.ensures.nodes ∙ i.5 in
+    let G : Found → Type 0 = λ f. SameContext c.args.ctx.now c.sign_of.new.ctx × ScanBelow (h + 1) f × Stepped c.args.fuel c.args.start c.in_ok-s.next × NotYet f
+    × ((s : Work) (n : ℕ) → KnownAs c.args.ctx.now s → scan (sign_in s) (in_use t) (limits c.args.fuel n) c.args.start ≡ remembered t.rows f (scan (sign_in s) (drop (h + 1) (in_use t)) (limits c.args.fuel n) c.in_ok-s.next))
+    × (c.in_ok-s.next.nodes ≡ c.args.start.nodes) in
     elim c.match-s.branch [
       | in-NonNegative w ↦
           subst G (sym w.found-is) (
@@ -94,18 +94,18 @@ loop-h-preserved c =
             i.3,
             λ s n k.
                 i.4 s n k ∙ used-more (λ rs. remembered t.rows c.loop-h.found (scan (sign_in s) rs (limits c.args.fuel n) c.loop-h.count)) t h c.loop-h-test.true (search rules)
-                ∙ scan-nonnegative (sign_in s) t.rows c.loop-h.found row (drop (h + 1) (in_use t)) (limits c.args.fuel n) c.loop-h.count c.in-ok-s.next (c.sign-of.ensures.value s n (known_same c.args.ctx.now c.loop-h.ctx s i.0 k) ∙ c.in-ok-s.was ∙ ap (λ x. Ok (x, c.in-ok-s.next)) w.in-NonNegative.is),
+                ∙ scan-nonnegative (sign_in s) t.rows c.loop-h.found row (drop (h + 1) (in_use t)) (limits c.args.fuel n) c.loop-h.count c.in_ok-s.next (c.sign_of.ensures.value s n (known_same c.args.ctx.now c.loop-h.ctx s i.0 k) ∙ c.in_ok-s.was ∙ ap (λ x. Ok (x, c.in_ok-s.next)) w.in-NonNegative.is),
             same,
           )
       | in-Unknown w ↦
-          subst G (sym (w.found-is ∙ w.first-unsure-found.ensures.value)) (
+          subst G (sym (w.found-is ∙ w.first_unsure-found.ensures.value)) (
             kept,
             below-unsure c.loop-h.found h i.1,
             on,
             not-yet-unsure c.loop-h.found h i.3,
             λ s n k.
                 i.4 s n k ∙ used-more (λ rs. remembered t.rows c.loop-h.found (scan (sign_in s) rs (limits c.args.fuel n) c.loop-h.count)) t h c.loop-h-test.true (search rules)
-                ∙ scan-unknown (sign_in s) t.rows c.loop-h.found row (drop (h + 1) (in_use t)) (limits c.args.fuel n) c.loop-h.count c.in-ok-s.next h refl i.3 (c.sign-of.ensures.value s n (known_same c.args.ctx.now c.loop-h.ctx s i.0 k) ∙ c.in-ok-s.was ∙ ap (λ x. Ok (x, c.in-ok-s.next)) w.in-Unknown.is),
+                ∙ scan-unknown (sign_in s) t.rows c.loop-h.found row (drop (h + 1) (in_use t)) (limits c.args.fuel n) c.loop-h.count c.in_ok-s.next h refl i.3 (c.sign_of.ensures.value s n (known_same c.args.ctx.now c.loop-h.ctx s i.0 k) ∙ c.in_ok-s.was ∙ ap (λ x. Ok (x, c.in_ok-s.next)) w.in-Unknown.is),
             same,
           )
     ]

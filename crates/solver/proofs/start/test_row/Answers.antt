@@ -13,14 +13,14 @@ loop-l-init c =
 
 pub loop-l-preserved : goal.loop-l-preserved
 loop-l-preserved c =
-    let r = c.test-coefficient.result in
+    let r = c.test_coefficient.result in
     let l = c.loop-l.l in
     let S = (test_row c.args.parameters c.args.made c.args.form.now).coefs in
     let w = test-width c.args.parameters c.args.made c.args.form.now c.requires.few.0 c.requires.few.1 (search rules) in
     let f : SFits w64 r = search rules in
     let i = c.loop-l.invariant in (
-      subst (λ z. Filled (pos 0) S (replicate 9 (pos 0)) (set c.loop-l.coefs l z) (l + 1)) (sym (to_z-of_z w64 r f)) (filled_more (pos 0) S (replicate 9 (pos 0)) c.loop-l.coefs l r (omega (arith, w)) c.test-coefficient.ensures.value i.0),
-      within-set (2 ^ 30) c.loop-l.coefs l _ (simp to_z-of_z c.test-coefficient.ensures.small) i.1,
+      subst (λ z. Filled (pos 0) S (replicate 9 (pos 0)) (set c.loop-l.coefs l z) (l + 1)) (sym (to_z-of_z w64 r f)) (filled_more (pos 0) S (replicate 9 (pos 0)) c.loop-l.coefs l r (omega (arith, w)) c.test_coefficient.ensures.value i.0),
+      within-set (2 ^ 30) c.loop-l.coefs l _ (simp to_z-of_z c.test_coefficient.ensures.small) i.1,
     )
 
 pub returns : goal.returns

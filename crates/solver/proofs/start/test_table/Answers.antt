@@ -5,7 +5,7 @@ use Rattle.solver.proofs.start.test_table.Goals as goal
 
 pub loop-k-init : goal.loop-k-init
 loop-k-init c =
-    let u = c.unit-table-t.ensures in
+    let u = c.unit_table-t.ensures in
     (u.ready, search rules, search rules, u.rows ∙ sym (append-nil _))
 
 pub loop-k-preserved : goal.loop-k-preserved
@@ -15,12 +15,12 @@ loop-k-preserved c =
     let ctx = c.args.ctx.now in
     let f = test_row ctx.parameters ctx.made in
     let u = unit_rows 0 (ctx.parameters + ctx.made) in
-    let q = c.push-row.ensures in (
+    let q = c.push_row.ensures in (
       q.ready,
       search rules,
       search rules,
-      q.rows ∙ ap (λ l. l ++ c.test-row.result ∷ []) i.3 ∙ append_assoc u (map f (take k ctx.forms)) _
-          ∙ ap (λ x. u ++ (map f (take k ctx.forms) ++ x ∷ [])) c.test-row.ensures.value ∙ ap (λ l. u ++ l) (sym (map_more f ctx.forms k [] (search rules))),
+      q.rows ∙ ap (λ l. l ++ c.test_row.result ∷ []) i.3 ∙ append_assoc u (map f (take k ctx.forms)) _
+          ∙ ap (λ x. u ++ (map f (take k ctx.forms) ++ x ∷ [])) c.test_row.ensures.value ∙ ap (λ l. u ++ l) (sym (map_more f ctx.forms k [] (search rules))),
     )
 
 pub returns : goal.returns

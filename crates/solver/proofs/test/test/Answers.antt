@@ -14,8 +14,8 @@ use Rattle.solver.proofs.test.test.Goals as goal
 pub loop-i-init : goal.loop-i-init
 loop-i-init c =
     let x = c.args.ctx.now in
-    let t = c.test-table-t.result in
-    let q = c.test-table-t.ensures in (
+    let t = c.test_table-t.result in
+    let q = c.test_table-t.ensures in (
       q.ready,
       omega arith,
       omega (arith, q.counts.0, c.requires.ready.room, c.requires.ready.few, c.requires.ready.new),
@@ -25,32 +25,32 @@ loop-i-init c =
       refl,
     )
 
-pub returns-in-err-count : goal.returns-in-err-count
-returns-in-err-count c =
+pub returns-in_err-count-in-Some-pivot_place : goal.returns-in_err-count-in-Some-pivot_place
+returns-in_err-count-in-Some-pivot_place c =
     let x = c.args.ctx.now in
     let t = c.loop-i.t in
     let i = c.loop-i.invariant in
     let g = gas-less i.5.0 c.args.fuel c.loop-i.count.steps i.5.1 i.3.within in
-    let p = err_from_is_err_and c.from-residual.result c.from-residual.ensures.1 in
-    let e = c.in-err-count.field-0.0 in
+    let p = err_from_is_err_and c.from_residual.result c.from_residual.ensures.1 in
+    let e = c.in_err-count-in-Some-pivot_place.field-0.0 in
     record {
       value = λ n.
           test-from x.parameters x.made (in_force x) (limits c.args.fuel n) c.args.start (Err e)
-          (sym (turn_on i.5.0 t c.loop-i.cuts i.0.inside (limits c.args.fuel n) c.loop-i.count g.0 g.1 c.in-Some.i c.in-Some.ensures.inside c.in-Some.ensures.value c.in-Some-pivot-place.spot c.in-Some-pivot-place.ensures.value (Err e)
-          (c.turn.ensures.value (test_of t c.loop-i.cuts) n ∙ ap (moved c.turn.new.t (test_of t c.loop-i.cuts)) c.in-err-count.was))
+          (sym (turn_on i.5.0 t c.loop-i.cuts i.0.inside (limits c.args.fuel n) c.loop-i.count g.0 g.1 c.in-Some.i c.in-Some.ensures.inside c.in-Some.ensures.value c.in-Some-pivot_place.spot c.in-Some-pivot_place.ensures.value (Err e)
+          (c.turn.ensures.value (test_of t c.loop-i.cuts) n ∙ ap (moved c.turn.new.t (test_of t c.loop-i.cuts)) c.in_err-count-in-Some-pivot_place.was))
           ∙ i.5.2 n)
           ∙ sym (p.1 ∙ ap Err p.2);
-      nodes = IfOk-from_err _ _ c.from-residual.ensures.0;
-      stepped = IfOk-from_err _ _ c.from-residual.ensures.0;
+      nodes = IfOk-from_err _ _ c.from_residual.ensures.0;
+      stepped = IfOk-from_err _ _ c.from_residual.ensures.0;
     }
 
-pub loop-i-preserved-in-Some-pivot-place : goal.loop-i-preserved-in-Some-pivot-place
-loop-i-preserved-in-Some-pivot-place c =
+pub loop-i-preserved-in-Some-pivot_place : goal.loop-i-preserved-in-Some-pivot_place
+loop-i-preserved-in-Some-pivot_place c =
     let x = c.args.ctx.now in
     let t = c.loop-i.t in
     let i = c.loop-i.invariant in
     let g = gas-less i.5.0 c.args.fuel c.loop-i.count.steps i.5.1 i.3.within in
-    let q = c.in-ok-count.ensures in (
+    let q = c.in_ok-count-in-Some-pivot_place.ensures in (
       q.ready,
       i.1,
       omega (arith, q.counts.0, i.2),
@@ -60,8 +60,8 @@ loop-i-preserved-in-Some-pivot-place c =
         g.0,
         omega (arith, g.1, i.5.1, q.moved.more),
         λ n.
-            sym (turn_on i.5.0 t c.loop-i.cuts i.0.inside (limits c.args.fuel n) c.loop-i.count g.0 g.1 c.in-Some.i c.in-Some.ensures.inside c.in-Some.ensures.value c.in-Some-pivot-place.spot c.in-Some-pivot-place.ensures.value
-            (Ok (test_of c.turn.new.t c.loop-i.cuts, c.in-ok-count.count)) (q.value (test_of t c.loop-i.cuts) n))
+            sym (turn_on i.5.0 t c.loop-i.cuts i.0.inside (limits c.args.fuel n) c.loop-i.count g.0 g.1 c.in-Some.i c.in-Some.ensures.inside c.in-Some.ensures.value c.in-Some-pivot_place.spot c.in-Some-pivot_place.ensures.value
+            (Ok (test_of c.turn.new.t c.loop-i.cuts, c.in_ok-count-in-Some-pivot_place.count)) (q.value (test_of t c.loop-i.cuts) n))
             ∙ i.5.2 n,
       ),
       q.nodes ∙ i.6,
@@ -82,28 +82,28 @@ returns-in-None c =
       stepped = i.3;
     }
 
-pub returns-in-err-count-2 : goal.returns-in-err-count-2
-returns-in-err-count-2 c =
+pub returns-in_err-count-in-Some-first_fraction : goal.returns-in_err-count-in-Some-first_fraction
+returns-in_err-count-in-Some-first_fraction c =
     let x = c.args.ctx.now in
     let t = c.loop-i.t in
     let i = c.loop-i.invariant in
     let g = gas-less i.5.0 c.args.fuel c.loop-i.count.steps i.5.1 i.3.within in
-    let p = err_from_is_err_and c.from-residual-in-err-count-2.result c.from-residual-in-err-count-2.ensures.1 in
-    let e = c.in-err-count-2.field-0.0 in
+    let p = err_from_is_err_and c.from_residual-in_err-count-in-Some-first_fraction.result c.from_residual-in_err-count-in-Some-first_fraction.ensures.1 in
+    let e = c.in_err-count-in-Some-first_fraction.field-0.0 in
     record {
       value = λ n.
           test-from x.parameters x.made (in_force x) (limits c.args.fuel n) c.args.start (Err e)
-          (sym (cut_on i.5.0 t c.loop-i.cuts i.0.inside (limits c.args.fuel n) c.loop-i.count g.0 g.1 c.in-default.ensures.value c.in-Some-first-fraction.h c.in-Some-first-fraction.ensures.inside c.in-Some-first-fraction.ensures.value (Err e)
-          (c.cut-plain.ensures.value (settle testing g.0) n ∙ ap (λ r. next (tested c.cut-plain.new.t (suc c.loop-i.cuts) r) (settle testing g.0) (limits c.args.fuel n)) c.in-err-count-2.was))
+          (sym (cut_on i.5.0 t c.loop-i.cuts i.0.inside (limits c.args.fuel n) c.loop-i.count g.0 g.1 c.in_default.ensures.value c.in-Some-first_fraction.h c.in-Some-first_fraction.ensures.inside c.in-Some-first_fraction.ensures.value (Err e)
+          (c.cut_plain.ensures.value (settle testing g.0) n ∙ ap (λ r. next (tested c.cut_plain.new.t (suc c.loop-i.cuts) r) (settle testing g.0) (limits c.args.fuel n)) c.in_err-count-in-Some-first_fraction.was))
           ∙ i.5.2 n)
           ∙ sym (p.1 ∙ ap Err p.2);
-      nodes = IfOk-from_err _ _ c.from-residual-in-err-count-2.ensures.0;
-      stepped = IfOk-from_err _ _ c.from-residual-in-err-count-2.ensures.0;
+      nodes = IfOk-from_err _ _ c.from_residual-in_err-count-in-Some-first_fraction.ensures.0;
+      stepped = IfOk-from_err _ _ c.from_residual-in_err-count-in-Some-first_fraction.ensures.0;
     }
 
-pub returns-in-None-first-fraction : goal.returns-in-None-first-fraction
+pub returns-in-None-first_fraction : goal.returns-in-None-first_fraction
 unfolding return
-returns-in-None-first-fraction c =
+returns-in-None-first_fraction c =
     let x = c.args.ctx.now in
     let t = c.loop-i.t in
     let i = c.loop-i.invariant in
@@ -111,7 +111,7 @@ returns-in-None-first-fraction c =
     record {
       value = λ n.
           test-from x.parameters x.made (in_force x) (limits c.args.fuel n) c.args.start (Ok (leaf (map (λ r. map (quot_by r.div) r.form) (top t)), c.loop-i.count))
-          (sym (leaf-on i.5.0 t c.loop-i.cuts i.0.inside (limits c.args.fuel n) c.loop-i.count g.0 g.1 c.in-default.ensures.value c.in-None-first-fraction.ensures.value) ∙ i.5.2 n);
+          (sym (leaf-on i.5.0 t c.loop-i.cuts i.0.inside (limits c.args.fuel n) c.loop-i.count g.0 g.1 c.in_default.ensures.value c.in-None-first_fraction.ensures.value) ∙ i.5.2 n);
       nodes = i.6;
       stepped = i.3;
     }
@@ -122,8 +122,8 @@ loop-i-preserved c =
     let t = c.loop-i.t in
     let i = c.loop-i.invariant in
     let g = gas-less i.5.0 c.args.fuel c.loop-i.count.steps i.5.1 i.3.within in
-    let q = c.in-ok-count-2.ensures in
-    let u = c.cut-plain.new.t in (
+    let q = c.in_ok-count-in-Some-first_fraction.ensures in
+    let u = c.cut_plain.new.t in (
       q.ready,
       omega (arith, q.counts.0),
       omega (arith, q.counts.1, i.2),
@@ -133,9 +133,9 @@ loop-i-preserved c =
         g.0,
         omega (arith, g.1, i.5.1, q.moved.more),
         λ n.
-            ap (λ k. settle testing g.0 (test_of u k) (limits c.args.fuel n) c.in-ok-count-2.count) (add-one c.loop-i.cuts)
-            ∙ sym (cut_on i.5.0 t c.loop-i.cuts i.0.inside (limits c.args.fuel n) c.loop-i.count g.0 g.1 c.in-default.ensures.value c.in-Some-first-fraction.h c.in-Some-first-fraction.ensures.inside c.in-Some-first-fraction.ensures.value
-            (Ok (test_of u (suc c.loop-i.cuts), c.in-ok-count-2.count)) (q.value (settle testing g.0) n))
+            ap (λ k. settle testing g.0 (test_of u k) (limits c.args.fuel n) c.in_ok-count-in-Some-first_fraction.count) (add-one c.loop-i.cuts)
+            ∙ sym (cut_on i.5.0 t c.loop-i.cuts i.0.inside (limits c.args.fuel n) c.loop-i.count g.0 g.1 c.in_default.ensures.value c.in-Some-first_fraction.h c.in-Some-first_fraction.ensures.inside c.in-Some-first_fraction.ensures.value
+            (Ok (test_of u (suc c.loop-i.cuts), c.in_ok-count-in-Some-first_fraction.count)) (q.value (settle testing g.0) n))
             ∙ i.5.2 n,
       ),
       q.nodes ∙ i.6,

@@ -23,8 +23,8 @@ returns-then-not-fits c =
 pub returns-in-Some : goal.returns-in-Some
 returns-in-Some c =
     let t = c.args.t.now in
-    let u = c.push-row.new.t in
-    let q = c.push-row.ensures in
+    let u = c.push_row.new.t in
+    let q = c.push_row.ensures in
     let p = place-some u t.count c.in-Some.spot c.in-Some.ensures.value in
     let e : entering (top u) c.args.row ≡ Some c.in-Some.spot.1 = ap (entering (top u)) (sym q.row) ∙ p.1 in
     let r : get_or u.rows c.in-Some.spot.0 no_row ≡ c.args.row = ap (λ i. get_or u.rows i no_row) p.0 ∙ q.row in
@@ -42,8 +42,8 @@ returns-in-Some c =
 pub returns-in-None : goal.returns-in-None
 returns-in-None c =
     let t = c.args.t.now in
-    let u = c.push-row.new.t in
-    let q = c.push-row.ensures in
+    let u = c.push_row.new.t in
+    let q = c.push_row.ensures in
     let e : entering (top u) c.args.row ≡ None = ap (entering (top u)) (sym q.row) ∙ place_none u t.count c.in-None.ensures.value in
     record {
       value = λ again s context n room. row-alone c.args.place again t s context n c.args.row c.args.fuel room c.args.count u q.top q.rest (sym c.if-not-fits.ensures) e;
