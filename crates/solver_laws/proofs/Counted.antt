@@ -61,7 +61,7 @@ adds-tick : (place : Place) → AddsNone (Unit {0}) (tick place)
 unfolding tick
 adds-tick place = λ l c. go c (ltb c.steps l.fuel)
   where
-    go : (c : Count) (b : Bool) → IfOk {X = Unit {0} × Count} (cond b (Ok (tt {0}, stepped c)) (Err (FuelSpent (met_at place c)))) (λ v. v.1.nodes + 0 ≡ c.nodes + 0)
+    go : (c : Count) (b : Bool) → IfOk {T = Unit {0} × Count} (cond b (Ok (tt {0}, stepped c)) (Err (FuelSpent (met_at place c)))) (λ v. v.1.nodes + 0 ≡ c.nodes + 0)
     go c true = refl
     go c false = tt
 
@@ -70,7 +70,7 @@ unfolding write
 adds-write Test = λ l c. refl
 adds-write Node = λ l c. go c (ltb c.nodes l.room)
   where
-    go : (c : Count) (b : Bool) → IfOk {X = Unit {0} × Count} (cond b (Ok (tt {0}, noted c)) (Err (WorkFull (met_at Node c)))) (λ v. v.1.nodes + 0 ≡ c.nodes + 1)
+    go : (c : Count) (b : Bool) → IfOk {T = Unit {0} × Count} (cond b (Ok (tt {0}, noted c)) (Err (WorkFull (met_at Node c)))) (λ v. v.1.nodes + 0 ≡ c.nodes + 1)
     go c true = omega arith
     go c false = tt
 

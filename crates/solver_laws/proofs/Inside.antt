@@ -48,7 +48,7 @@ kept-tick : (place : Place) → Kept (Unit {0}) (tick place)
 unfolding tick
 kept-tick place = λ l c h. go l c h (ltb c.steps l.fuel) refl
   where
-    go : (l : Limits) (c : Count) → (c.steps ≤ l.fuel) × (c.nodes ≤ l.room) → (b : Bool) → ltb c.steps l.fuel ≡ b → IfOk {X = Unit {0} × Count} (cond b (Ok (tt {0}, stepped c)) (Err (FuelSpent (met_at place c)))) (λ v. (v.1.steps ≤ l.fuel) × (v.1.nodes ≤ l.room))
+    go : (l : Limits) (c : Count) → (c.steps ≤ l.fuel) × (c.nodes ≤ l.room) → (b : Bool) → ltb c.steps l.fuel ≡ b → IfOk {T = Unit {0} × Count} (cond b (Ok (tt {0}, stepped c)) (Err (FuelSpent (met_at place c)))) (λ v. (v.1.steps ≤ l.fuel) × (v.1.nodes ≤ l.room))
     go l c h true e = (ltb-true c.steps l.fuel e, h.1)
     go l c h false e = tt
 
@@ -57,7 +57,7 @@ unfolding write
 kept-write Test = λ l c h. h
 kept-write Node = λ l c h. go l c h (ltb c.nodes l.room) refl
   where
-    go : (l : Limits) (c : Count) → (c.steps ≤ l.fuel) × (c.nodes ≤ l.room) → (b : Bool) → ltb c.nodes l.room ≡ b → IfOk {X = Unit {0} × Count} (cond b (Ok (tt {0}, noted c)) (Err (WorkFull (met_at Node c)))) (λ v. (v.1.steps ≤ l.fuel) × (v.1.nodes ≤ l.room))
+    go : (l : Limits) (c : Count) → (c.steps ≤ l.fuel) × (c.nodes ≤ l.room) → (b : Bool) → ltb c.nodes l.room ≡ b → IfOk {T = Unit {0} × Count} (cond b (Ok (tt {0}, noted c)) (Err (WorkFull (met_at Node c)))) (λ v. (v.1.steps ≤ l.fuel) × (v.1.nodes ≤ l.room))
     go l c h true e = (h.0, ltb-true c.nodes l.room e)
     go l c h false e = tt
 
