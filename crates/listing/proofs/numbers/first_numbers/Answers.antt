@@ -16,18 +16,18 @@ loop-i-preserved c =
     let n = length c.args.places.now in
     let i = c.loop-i.i in
     let places = c.loop-i.places in
-    let x = c.in-ok-x.x in
+    let x = c.in_ok-x.x in
     let f : SFits w64 x = search rules in
-    let q = c.in-ok-x.ensures.answer in
+    let q = c.in_ok-x.ensures.answer in
     let is = to_z-of_z w64 x f in
-    sym (place-filled n i places c.loop-i.rest.now c.in-ok-x.after.now _ (omega arith) (omega arith) (q.0 ∙ ap Some (sym is)) q.1) ∙ c.loop-i.invariant
+    sym (place-filled n i places c.loop-i.rest.now c.in_ok-x.after.now _ (omega arith) (omega arith) (q.0 ∙ ap Some (sym is)) q.1) ∙ c.loop-i.invariant
 
-pub returns-in-err-x : goal.returns-in-err-x
-returns-in-err-x c =
+pub returns-in_err-x : goal.returns-in_err-x
+returns-in_err-x c =
     let n = length c.args.places.now in
     let i = c.loop-i.i in
-    let q = c.in-err-x.ensures.answer in
-    let p = err_from_is_err_and c.from-residual.result c.from-residual.ensures.1 in
+    let q = c.in_err-x.ensures.answer in
+    let p = err_from_is_err_and c.from_residual.result c.from_residual.ensures.1 in
     let e = no_number n i c.loop-i.rest.now (take i c.loop-i.places) (omega arith) q.0 in
     record { answer = (sym c.loop-i.invariant ∙ e) ∙ sym (ap (reached c.loop-i.places) p.1 ∙ ap Err (p.2 ∙ q.1)) }
 

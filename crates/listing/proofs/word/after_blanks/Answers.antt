@@ -4,8 +4,8 @@ use Rattle.listing.specs.Words.{after_blanks}
 use Rattle.listing.proofs.WordSteps.{blank-passed, blanks-end}
 use Rattle.listing.proofs.word.after_blanks.Goals as goal
 
-pub returns-then-not-is-blank : goal.returns-then-not-is-blank
-returns-then-not-is-blank c =
+pub returns-then-not-is_blank : goal.returns-then-not-is_blank
+returns-then-not-is_blank c =
     let text = c.args.text.now in
     let i = c.loop-i.i in
     record { value = (take_rest text i ∙ sym (blanks-end text i (omega arith) (search rules))) ∙ c.loop-i.invariant }

@@ -14,22 +14,22 @@ few ds t = leb-true _ _ (and_parts _ _ t).1
 spells : (ds : List ℕ) → counted ds → natural_of ds ≡ spelled_from 0 ds
 spells ds t = cond-true _ _ _ t
 
-pub overflow-mul-x : goal.overflow-mul-x
-overflow-mul-x c =
+pub overflow_mul-x : goal.overflow_mul-x
+overflow_mul-x c =
     let k : length c.args.digits.now ≤ 9 = few _ (search rules) in
     let h = nine-fit c.loop-b.b-index c.loop-b.x 0 c.loop-b.invariant.1 (omega arith) (omega arith) in
     search rules
 
-pub returns-in-err-x : goal.returns-in-err-x
-returns-in-err-x c =
+pub returns-in_err-x : goal.returns-in_err-x
+returns-in_err-x c =
     let ds = c.args.digits.now in
-    let e = no_digit ds c.loop-b.b-index c.loop-b.x (omega arith) c.in-err-x.ensures.value in
-    record { value = (c.from-residual.ensures ∙ sym e) ∙ (c.loop-b.invariant.0 ∙ sym (spells ds (search rules))) }
+    let e = no_digit ds c.loop-b.b-index c.loop-b.x (omega arith) c.in_err-x.ensures.value in
+    record { value = (c.from_residual.ensures ∙ sym e) ∙ (c.loop-b.invariant.0 ∙ sym (spells ds (search rules))) }
 
-pub overflow-add-x : goal.overflow-add-x
-overflow-add-x c =
+pub overflow_add-x : goal.overflow_add-x
+overflow_add-x c =
     let k : length c.args.digits.now ≤ 9 = few _ (search rules) in
-    let h = nine-fit c.loop-b.b-index c.loop-b.x c.in-ok-x.field-0 c.loop-b.invariant.1 (omega arith) c.in-ok-x.ensures.small in
+    let h = nine-fit c.loop-b.b-index c.loop-b.x c.in_ok-x.field-0 c.loop-b.invariant.1 (omega arith) c.in_ok-x.ensures.small in
     search rules
 
 pub loop-b-preserved : goal.loop-b-preserved
@@ -37,9 +37,9 @@ loop-b-preserved c =
     let ds = c.args.digits.now in
     let i = c.loop-b.b-index in
     let x = c.loop-b.x in
-    let d = c.in-ok-x.field-0 in (
-      sym (digit-passed ds i x d (omega arith) c.in-ok-x.ensures.value) ∙ c.loop-b.invariant.0,
-      below_power i x d c.loop-b.invariant.1 c.in-ok-x.ensures.small,
+    let d = c.in_ok-x.field-0 in (
+      sym (digit-passed ds i x d (omega arith) c.in_ok-x.ensures.value) ∙ c.loop-b.invariant.0,
+      below_power i x d c.loop-b.invariant.1 c.in_ok-x.ensures.small,
     )
 
 pub returns : goal.returns

@@ -4,8 +4,8 @@ use Rattle.listing.specs.Words.{word_length}
 use Rattle.listing.proofs.WordSteps.{byte-passed, word-ends}
 use Rattle.listing.proofs.word.word_length.Goals as goal
 
-pub returns-then-is-blank : goal.returns-then-is-blank
-returns-then-is-blank c =
+pub returns-then-is_blank : goal.returns-then-is_blank
+returns-then-is_blank c =
     let e = word-ends c.args.text.now c.loop-i.i (omega arith) (search rules) in
     record { value = omega arith; within = omega arith }
 

@@ -12,7 +12,7 @@ loop-x-preserved g c =
     let xs = c.args.self.now.0.now in
     let i = c.loop-x.x-index in
     written-more g.W.Write.write_str_gives spaced c.args.f.now c.loop-x.f c.write.new.self xs i (pos 0) (omega arith) c.loop-x.invariant
-    c.in-ok-write.ensures.shows
+    c.in_ok-write.ensures.writes
 
 pub returns-clause-writes : goal.returns-clause-writes
 returns-clause-writes g c = λ plain ok.
