@@ -1,5 +1,5 @@
 -- Forms of the parameters: ten numbers, the last of them the constant.
-use Rattle.std.specs.Prelude.{ℕ, List, [], ◌∷◌, ◌++◌, map, ℤ, pos, ◌+ℤ◌, ◌-ℤ◌, ◌*ℤ◌, neg_ℤ, slice_set}
+use Rattle.std.specs.Prelude.{List, [], ◌∷◌, ◌++◌, map, ℤ, pos, ◌+ℤ◌, ◌-ℤ◌, ◌*ℤ◌, neg_ℤ, slice_set}
 use Rattle.base.specs.Numbers.{at}
 
 -- the sum of the products, number by number; the shorter list decides

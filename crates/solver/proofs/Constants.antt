@@ -1,5 +1,5 @@
 -- In a test no form names a parameter, and pivots and cuts keep it so.
-use Rattle.std.proofs.Common.{◌≡◌, ℕ, zero, suc, ◌+◌, ◌/◌, ◌%◌, ◌<◌, ◌≤◌, true, false, ◌&&◌, ◌≢◌, List, [], ◌∷◌, ◌++◌, map, length, get_or, take, set, replicate, ℤ, pos, negsuc, ◌-ℤ◌, ◌*ℤ◌, neg_ℤ, nat_abs, None, sym, refl, ap, ◌∙◌, subst, arith}
+use Rattle.std.proofs.Common.{◌≡◌, ℕ, zero, suc, ◌<◌, true, ◌&&◌, ◌≢◌, List, [], ◌∷◌, ◌++◌, map, get_or, take, set, ℤ, pos, negsuc, ◌*ℤ◌, neg_ℤ, nat_abs, None, refl, ap, ◌∙◌, arith}
 use native.Mathlib.Nat.{zero-div, zero-mod}
 use lib.IntN.{*ℤ-zero}
 use Rattle.std.proofs.lemmas.List.{get_or-set_other}
@@ -11,7 +11,7 @@ use Rattle.tableau.specs.Cuts.{cut_of, cut_row, is_constant, is_zero, none_of}
 use Rattle.tableau.specs.declared.table.Table.{Table}
 use Rattle.tableau.specs.Tables.{in_use, no_row}
 use Rattle.solver.specs.Bounds.{AllConst, ConstForm}
-use Rattle.solver.specs.Tests.{test_row, unit_row, unit_rows, zeros}
+use Rattle.solver.specs.Tests.{test_row, unit_rows, zeros}
 
 -- what keeps 0 keeps it at each place, past the end too
 pub map-zero : (f : ℤ → ℤ) → f (pos 0) ≡ pos 0 → (xs : List ℤ) (k : ℕ) → at xs k ≡ pos 0 → at (map f xs) k ≡ pos 0

@@ -1,5 +1,5 @@
 -- The sign of a form, and the signs of rows in order.
-use Rattle.std.proofs.Common.{◌≡◌, ℕ, suc, ◌+◌, ◌<◌, ◌≤◌, Bool, true, false, cond, ◌&&◌, List, [], ◌∷◌, get_or, drop, ℤ, pos, Ok, Err, Result, sym, refl, ap, ◌∙◌, arith}
+use Rattle.std.proofs.Common.{◌≡◌, ℕ, ◌+◌, Bool, true, false, cond, ◌&&◌, List, [], ◌∷◌, get_or, ℤ, pos, Ok, Err, sym, refl, ap, ◌∙◌, arith}
 use lib.Signed.{lt_z}
 use Rattle.base.specs.declared.refusal.Refusal.{Refusal}
 use Rattle.base.specs.Forms.{opposite}
@@ -12,10 +12,10 @@ use Rattle.solver.specs.declared.sign.Scan.{Scan as Found}
 use Rattle.solver.specs.declared.sign.Scan.TheVariants.{Negative as NegativeAt, Unsure, Clear}
 use Rattle.solver.specs.declared.sign.Sign.{Sign}
 use Rattle.solver.specs.declared.sign.Sign.TheVariants.{NonNegative, Negative, Unknown}
-use Rattle.solver.specs.Bounds.{SameContext, ScanBelow, in_force}
+use Rattle.solver.specs.Bounds.{SameContext, ScanBelow}
 use Rattle.solver.specs.Runs.{Limits, Outcome, Run, return, next, ◌>>=◌}
 use Rattle.solver.specs.Rules.{Scan, Work, after_above, after_below, below, clear, none_above, none_below, recall, scan, scanned, sign_in, test_with, unsure}
-use Rattle.solver.specs.Ties.{KnownAs, first_unsure, scan_at, scanned_at}
+use Rattle.solver.specs.Ties.{KnownAs, first_unsure, scan_at}
 
 pub known_same : (x y : Context) (s : Work) → SameContext x y → KnownAs x s → KnownAs y s
 known_same x y s e k = record { context = k.context ∙ sym e.rows; parameters = k.parameters ∙ sym e.parameters; made = k.made ∙ sym e.made }

@@ -1,8 +1,7 @@
 -- The rows that a table starts from, one more at a time and place by place.
-use Rattle.std.proofs.Common.{◌≡◌, ℕ, zero, suc, ◌+◌, ◌-◌, ◌<◌, ◌≤◌, min, List, [], ◌∷◌, ◌++◌, map, length, get_or, take, drop, set, replicate, ℤ, pos, sym, refl, ap, ◌∙◌, add-one, arith}
-use Rattle.std.proofs.lemmas.List.{append-nil, append_assoc, length-append, length-drop, length-replicate, length-take, get_or_append_left, get_or-append_right, get_or-drop, get_or-replicate, get_or-take, take_more}
+use Rattle.std.proofs.Common.{◌≡◌, ℕ, zero, suc, ◌+◌, ◌-◌, ◌<◌, ◌≤◌, List, [], ◌∷◌, ◌++◌, length, take, drop, ℤ, pos, sym, refl, ap, ◌∙◌, add-one, arith}
+use Rattle.std.proofs.lemmas.List.{length-append, length-drop, length-replicate, length-take, get_or_append_left, get_or-append_right, get_or-drop, get_or-replicate, get_or-take}
 use Rattle.base.specs.Numbers.{at}
-use Rattle.tableau.specs.declared.table.Row.{Row}
 use Rattle.solver.specs.Tests.{test_row, unit_row, unit_rows, zeros}
 
 -- one unknown more

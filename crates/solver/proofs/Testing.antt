@@ -1,5 +1,5 @@
 -- A test, a turn at a time.
-use Rattle.std.proofs.Common.{◌≡◌, ℕ, zero, suc, ◌+◌, ◌-◌, ◌<◌, ◌≤◌, Bool, true, false, cond, ltb, List, [], ◌∷◌, ◌++◌, map, length, get_or, take, drop, ℤ, pos, negsuc, Some, None, Ok, Err, Option, Result, sym, refl, ap, ◌∙◌, subst, arith}
+use Rattle.std.proofs.Common.{◌≡◌, ℕ, zero, suc, ◌+◌, ◌-◌, ◌<◌, ◌≤◌, Bool, true, false, cond, List, [], ◌∷◌, ◌++◌, map, get_or, take, drop, ℤ, pos, negsuc, Some, None, Ok, Err, Result, sym, refl, ap, ◌∙◌, arith}
 use lib.Signed.{lt_z}
 use Rattle.std.proofs.lemmas.List.{drop_at, get_or-take, take_at, take-take}
 use Rattle.std.proofs.lemmas.Bool.{le-ltb}
@@ -14,7 +14,7 @@ use Rattle.tree.specs.Trees.{Tree, leaf, none}
 use Rattle.solver.specs.declared.context.Context.{Context}
 use Rattle.solver.specs.declared.count.Count.{Count}
 use Rattle.solver.specs.Bounds.{in_force}
-use Rattle.solver.specs.Runs.{Limits, Outcome, Run, met_at, refuse, return, next, ◌>>=◌, ◌>>◌, write}
+use Rattle.solver.specs.Runs.{Limits, Outcome, met_at, refuse, return, next, ◌>>=◌, ◌>>◌, write}
 use Rattle.base.specs.declared.refusal.Refusal.TheVariants.{Range}
 use Rattle.base.specs.Numbers.{within}
 use Rattle.solver.specs.Rules.{Scan, Way, Work, act, below, clear, cut, finish, fraction, has_point, lift, scan, scanned, settle, ranged, sign_of, test, test_with, test_work, testing, turn}

@@ -13,7 +13,7 @@ use Rattle.tree.specs.Trees.{Tree}
 use Rattle.solver.specs.declared.count.Count.{Count}
 use Rattle.solver.specs.Runs.{Limits, Outcome, Run, return, next, ◌>>=◌, ◌>>◌, refuse, tick, met_at, stepped}
 use Rattle.solver.specs.Rules.{Work, added, ranged, turn, with_row}
-use Rattle.solver.specs.Ties.{after_cut, limits, moved, rest, ticked, with_table}
+use Rattle.solver.specs.Ties.{after_cut, limits, rest, ticked, with_table}
 
 -- ---- tables
 pub top-used : (t : Table) → t.unknowns ≤ t.count → top t ≡ take t.unknowns (in_use t)

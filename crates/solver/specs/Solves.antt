@@ -10,9 +10,8 @@ use Rattle.tableau.specs.declared.table.Row.{Row}
 use Rattle.tree.specs.declared.node.Node.{Node as TreeNode}
 use Rattle.tree.specs.declared.node.Node.TheVariants.{Head, Keep, None as Blank}
 use Rattle.tree.specs.Trees.{Tree, nodes}
-use Rattle.solver.specs.declared.count.Count.{Count}
 use Rattle.solver.specs.declared.run.Solved.{Solved}
-use Rattle.solver.specs.Runs.{Limits, Outcome, Run, fail, return, ◌>>=◌, ◌>>◌, write}
+use Rattle.solver.specs.Runs.{Outcome, Run, fail, return, ◌>>=◌, ◌>>◌, write}
 use Rattle.solver.specs.Tests.{unit_rows, zeros}
 use Rattle.solver.specs.Rules.{Work, node, test}
 

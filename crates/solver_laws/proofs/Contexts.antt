@@ -1,16 +1,15 @@
 -- Refusal 13 is right, and tests and signs are.
-use Rattle.std.proofs.Common.{◌≡◌, ℕ, ◌+◌, Bool, true, false, List, [], ◌∷◌, length, ℤ, nat_abs, Some, None, Ok, Err, Option, Result, sym, refl, ap, ◌∙◌, subst, arith}
+use Rattle.std.proofs.Common.{◌≡◌, ℕ, Bool, true, false, List, nat_abs, Ok, Err, Result, sym, refl, ap, ◌∙◌, subst, arith}
 use Rattle.base.specs.declared.refusal.Refusal.{Refusal}
-use Rattle.base.specs.declared.refusal.Refusal.TheVariants.{Counts, Fuel, NoParameterPoint}
-use Rattle.source.specs.Limits.{counts_fit, first_outside, numbers_answer, refused_at}
+use Rattle.base.specs.declared.refusal.Refusal.TheVariants.{NoParameterPoint}
 use Rattle.source.specs.Systems.{MeetsContext, System}
 use Rattle.tree.specs.Trees.{Tree}
 use Rattle.solver.specs.declared.count.Count.{Count}
 use Rattle.solver.specs.Runs.{Limits, Outcome, fail, next, ◌>>=◌}
 use Rattle.solver.specs.Rules.{Work, test}
-use Rattle.solver.specs.Solves.{and_then, begun, context_of, fitted, fuel_fits, numbers_fit, rows_of, run, solved, start, system_fits}
+use Rattle.solver.specs.Solves.{and_then, begun, context_of, fuel_fits, run, solved, start, system_fits}
 use Rattle.solver_laws.specs.Contexts.{AcceptedMet, ContextLaws, EmptyRefused, RefusedEmpty}
-use Rattle.solver_laws.specs.Meaning.{HasSetting, Meets, Setting, Yields}
+use Rattle.solver_laws.specs.Meaning.{HasSetting}
 use Rattle.solver_laws.proofs.Accepted.{Counted, counted, run_of, system-fits}
 use Rattle.solver_laws.proofs.Closed.{no-path}
 use Rattle.solver_laws.proofs.FuelRange.{first, limits}

@@ -1,5 +1,5 @@
 -- The shape of the work: nine coefficients, forms of ten numbers, and nothing at places that are not in use. Every move keeps it.
-use Rattle.std.proofs.Common.{◌≡◌, ℕ, suc, ◌+◌, ◌<◌, ◌≤◌, List, [], ◌∷◌, ◌++◌, map, length, set, ℤ, pos, ◌+ℤ◌, ◌-ℤ◌, neg_ℤ, Some, None, ap, ◌∙◌, arith, length-set}
+use Rattle.std.proofs.Common.{◌≡◌, ℕ, suc, ◌+◌, ◌<◌, ◌≤◌, List, [], ◌∷◌, map, length, set, ℤ, pos, ◌+ℤ◌, ◌-ℤ◌, neg_ℤ, Some, None, ◌∙◌, arith, length-set}
 use Rattle.std.proofs.lemmas.List.{length-map}
 use Rattle.base.specs.Numbers.{at}
 use Rattle.tableau.specs.declared.table.Row.{Row}

@@ -1,14 +1,14 @@
 -- A setting parted into the places in use and the others: the value of a form there is that of its row in a test.
-use Rattle.std.proofs.Common.{◌≡◌, ℕ, zero, suc, ◌+◌, ◌-◌, ◌<◌, ◌≤◌, List, [], ◌∷◌, ◌++◌, length, take, drop, set, ℤ, pos, ◌+ℤ◌, ◌-ℤ◌, sym, refl, ap, ◌∙◌, subst, inl, inr, arith}
-use Rattle.std.proofs.lemmas.List.{append_assoc, drop-drop, get_or-drop, length-append, length-drop, length-take-le, take-append-drop}
+use Rattle.std.proofs.Common.{◌≡◌, ℕ, zero, suc, ◌+◌, ◌-◌, ◌<◌, ◌≤◌, List, [], ◌∷◌, ◌++◌, length, take, drop, ℤ, pos, ◌+ℤ◌, sym, refl, ap, ◌∙◌, inl, inr, arith}
+use Rattle.std.proofs.lemmas.List.{append_assoc, drop-drop, get_or-drop, length-take-le}
 use Rattle.base.specs.Numbers.{at}
 use Rattle.base.specs.Forms.{dot, value_at}
 use Rattle.algebra.specs.Lists.{zeros}
 use Rattle.algebra.proofs.Ring.{◌⊕◌, ◌⊖◌, ◌⊗◌, num, ring}
-use Rattle.algebra.proofs.Dots.{dot-append, dot-comm, dot-padded, dot-split, dot-zeros, length-zeros}
+use Rattle.algebra.proofs.Dots.{dot-append, dot-comm, dot-padded, dot-split, dot-zeros}
 use Rattle.tableau_laws.proofs.Settings.{value-constant}
 use Rattle.solver.specs.Tests.{test_row}
-use Rattle.solver_laws.specs.Places.{Spare, Uses}
+use Rattle.solver_laws.specs.Places.{Uses}
 
 -- numbers that are all 0 add nothing
 pub dot-none : (xs ys : List ℤ) → ((k : ℕ) → at xs k ≡ pos 0) → dot xs ys ≡ pos 0

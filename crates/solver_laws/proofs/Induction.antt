@@ -1,5 +1,5 @@
 -- One induction over the work at a node and in a test: what each move keeps, and what each end makes, holds of the tree.
-use Rattle.std.proofs.Common.{◌≡◌, ℕ, zero, suc, ◌+◌, Bool, true, false, cond, ◌&&◌, eqb, ◌⊎◌, List, [], ◌∷◌, ◌++◌, map, ℤ, Some, None, Option, sym, refl, ap, subst, inl, inr}
+use Rattle.std.proofs.Common.{◌≡◌, ℕ, zero, suc, ◌+◌, Bool, true, false, cond, ◌&&◌, eqb, List, [], ◌∷◌, ◌++◌, map, ℤ, Some, None, Option, sym, refl, ap, subst, inl, inr}
 use Rattle.base.specs.declared.refusal.Place.{Place}
 use Rattle.base.specs.declared.refusal.Refusal.TheVariants.{Cuts, FuelSpent, NewParameters}
 use Rattle.base.specs.Numbers.{within}
@@ -10,11 +10,11 @@ use Rattle.tableau.specs.Rows.{fits, pivoted}
 use Rattle.tableau.specs.Tables.{all_fit}
 use Rattle.tableau_laws.specs.Ends.{leaf_forms}
 use Rattle.tableau_laws.specs.Lines.{In}
-use Rattle.tableau_laws.proofs.Rows.{in_left, in_right}
+use Rattle.tableau_laws.proofs.Rows.{in_right}
 use Rattle.tree.specs.Trees.{Tree, new, leaf, none}
 use Rattle.solver.specs.declared.sign.Sign.{Sign}
 use Rattle.solver.specs.declared.sign.Sign.TheVariants.{NonNegative, Negative, Unknown}
-use Rattle.solver.specs.Runs.{Run, bar, return, write, ◌>>=◌, ◌>>◌}
+use Rattle.solver.specs.Runs.{Run, ◌>>=◌}
 use Rattle.solver.specs.Rules.{Scan, Way, Work, act, added, below, clear, cut, cut_new, cut_plain, finish, fraction, lift, recall, scan, scanned, settle, turn, unsure, with_row}
 use Rattle.solver_laws.specs.Meaning.{Yields}
 use Rattle.solver_laws.proofs.Yields.{y-bar, y-bind, y-cond, y-ranged, y-refuse, y-return, y-seq, y-then, y-weaken}

@@ -1,5 +1,5 @@
 -- Every solve is right.
-use Rattle.std.proofs.Common.{◌≡◌, ℕ, ◌+◌, ◌-◌, ◌≤◌, Bool, true, false, List, [], ◌∷◌, ◌++◌, map, length, ℤ, pos, nat_abs, Ok, sym, refl, ◌∙◌, subst, arith}
+use Rattle.std.proofs.Common.{◌≡◌, ℕ, ◌+◌, ◌-◌, Bool, true, false, List, map, length, ℤ, pos, nat_abs, sym, ◌∙◌, subst, arith}
 use Rattle.std.proofs.lemmas.List.{length-append, length-map}
 use Rattle.base.specs.declared.refusal.Refusal.TheVariants.{NoParameterPoint}
 use Rattle.algebra.specs.Lists.{zeros}
@@ -11,14 +11,10 @@ use Rattle.tableau_laws.specs.Facts.{Right}
 use Rattle.tableau_laws.specs.Lines.{Unused}
 use Rattle.tableau_laws.proofs.Start.{start_right}
 use Rattle.tree.specs.Answers.{answer_from, setting}
-use Rattle.tree.specs.Trees.{Tree}
-use Rattle.solver.specs.declared.count.Count.{Count}
-use Rattle.solver.specs.Tests.{unit_rows}
-use Rattle.solver.specs.Runs.{Run, fail, write, ◌>>=◌, ◌>>◌}
-use Rattle.solver.specs.Rules.{Work, node, test}
-use Rattle.solver.specs.Solves.{begun, context_of, keeps, row_of, rows_of, run, solved, start}
+use Rattle.solver.specs.Rules.{Work}
+use Rattle.solver.specs.Solves.{begun, row_of, rows_of, run, start}
 use Rattle.solver_laws.specs.Least.{LeastPoint}
-use Rattle.solver_laws.specs.Meaning.{Meets, RightAnswer, Setting, Yields}
+use Rattle.solver_laws.specs.Meaning.{Setting, Yields}
 use Rattle.solver_laws.proofs.Accepted.{Counted, counted, run_of, system-fits}
 use Rattle.solver_laws.proofs.FuelRange.{first, limits}
 use Rattle.solver_laws.proofs.Formed.{Formed}

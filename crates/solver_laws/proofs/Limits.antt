@@ -1,5 +1,5 @@
 -- Trees that a solve answers are within the limits of a tree.
-use Rattle.std.proofs.Common.{◌≡◌, ℕ, zero, suc, ◌+◌, ◌-◌, ◌^◌, ◌<◌, ◌≤◌, Bool, true, false, cond, ◌&&◌, eqb, ◌≢◌, List, [], ◌∷◌, ◌++◌, map, length, take, drop, ℤ, pos, negsuc, nat_abs, ◌≤ℤ◌, ◌<ℤ◌, Some, None, Ok, Err, Option, Result, sym, refl, ap, ◌∙◌, subst, inl, inr, arith}
+use Rattle.std.proofs.Common.{◌≡◌, ℕ, zero, suc, ◌+◌, ◌-◌, ◌^◌, ◌<◌, ◌≤◌, Bool, true, false, ◌&&◌, ◌≢◌, List, [], ◌∷◌, ◌++◌, map, length, take, drop, ℤ, pos, negsuc, nat_abs, ◌≤ℤ◌, ◌<ℤ◌, Some, None, Ok, Err, Option, Result, sym, refl, ap, ◌∙◌, subst, inl, inr, arith}
 use borrow.Author.Differences.{ints}
 use Rattle.std.proofs.lemmas.List.{length-map}
 use Rattle.std.proofs.lemmas.Bool.{and_parts}
@@ -7,7 +7,6 @@ use Rattle.base.specs.declared.refusal.Place.TheVariants.{Node}
 use Rattle.base.specs.declared.refusal.Refusal.{Refusal}
 use Rattle.base.specs.declared.refusal.Refusal.TheVariants.{Depth, NoParameterPoint}
 use Rattle.source.specs.Limits.{counts_answer, first_outside, numbers_answer, refused_at}
-use Rattle.source.specs.Systems.{System}
 use Rattle.source.proofs.Numbers.{none-outside}
 use Rattle.algebra.specs.Lists.{zeros}
 use Rattle.base.specs.Forms.{opposite}
@@ -32,7 +31,7 @@ use Rattle.solver.specs.declared.sign.Sign.{Sign}
 use Rattle.solver.specs.Runs.{Run}
 use Rattle.solver.specs.Rules.{Work, branch, branches, node, plenty, solving, where_form}
 use Rattle.solver.specs.Tests.{unit_row, unit_rows}
-use Rattle.solver.specs.Solves.{and_then, begun, context_of, fitted, form_of, keeps, numbers_fit, row_of, rows_of, run, solved, start, system_fits}
+use Rattle.solver.specs.Solves.{begun, fitted, form_of, numbers_fit, row_of, rows_of, run, start}
 use Rattle.solver.proofs.Keeping.{quots-within, sound-one, within-drop, within-set, within-zeros}
 use Rattle.solver.proofs.Starting.{length-units}
 use Rattle.solver_laws.specs.Limits.{TreeLimits}
@@ -41,7 +40,7 @@ use Rattle.solver_laws.specs.Places.{Spare, Uses}
 use Rattle.solver_laws.proofs.Accepted.{counted, run_of, system-fits, then-first, then-second}
 use Rattle.solver_laws.proofs.FuelRange.{first, limits}
 use Rattle.solver_laws.proofs.Formed.{Formed, formed-new, formed-plain, formed-turn, formed-where, row-shape, row-uses}
-use Rattle.solver_laws.proofs.Induction.{Sound, new_work, plain_work, rows_in, settle-sound, turned_work}
+use Rattle.solver_laws.proofs.Induction.{Sound, rows_in, settle-sound, turned_work}
 use Rattle.solver_laws.proofs.Least.{start-formed}
 use Rattle.solver_laws.proofs.Nodes.{made-less}
 use Rattle.solver_laws.proofs.Places.{opposite-uses}

@@ -1,5 +1,5 @@
 -- The tree of a node is right at every setting that meets its context.
-use Rattle.std.proofs.Common.{◌≡◌, ℕ, zero, suc, ◌+◌, ◌<◌, ◌≤◌, Bool, true, false, cond, T, eqb, ◌≢◌, List, [], ◌∷◌, ◌++◌, map, length, ℤ, pos, ◌≤ℤ◌, ◌<ℤ◌, Some, None, Option, sym, refl, ap, ◌∙◌, subst, arith, length-set}
+use Rattle.std.proofs.Common.{◌≡◌, ℕ, zero, suc, ◌+◌, ◌<◌, ◌≤◌, Bool, true, false, cond, T, eqb, ◌≢◌, List, [], ◌∷◌, ℤ, pos, ◌≤ℤ◌, ◌<ℤ◌, Some, None, Option, sym, refl, ◌∙◌, subst, arith, length-set}
 use borrow.Author.Differences.{ints}
 use lib.Signed.{le_z, le_z_yes}
 use Rattle.std.proofs.lemmas.Int.{by_lt_z}
@@ -7,8 +7,7 @@ use Rattle.base.specs.declared.refusal.Place.TheVariants.{Node}
 use Rattle.base.specs.declared.refusal.Refusal.TheVariants.{Depth}
 use Rattle.base.specs.Forms.{opposite, value_at}
 use Rattle.tableau.specs.declared.table.Row.{Row}
-use Rattle.tableau.specs.Columns.{entering}
-use Rattle.tableau.specs.Cuts.{cut_of, is_constant, lower, upper}
+use Rattle.tableau.specs.Cuts.{cut_of, lower, upper}
 use Rattle.tableau_laws.specs.Ends.{Least, NoPoint, NonNegAt}
 use Rattle.tableau_laws.specs.Facts.{Right}
 use Rattle.tableau_laws.specs.Lines.{In, Line}
@@ -21,13 +20,12 @@ use Rattle.tableau_laws.proofs.Settings.{value-opposite}
 use Rattle.tree.specs.Answers.{answer_from}
 use Rattle.tree.specs.Trees.{Tree, split}
 use Rattle.solver.specs.declared.sign.Sign.{Sign}
-use Rattle.solver.specs.declared.sign.Sign.TheVariants.{NonNegative, Negative, Unknown}
-use Rattle.solver.specs.Runs.{Run, bar, return, tick, write, ◌>>=◌, ◌>>◌}
-use Rattle.solver.specs.Rules.{Way, Work, branch, branches, node, plenty, settle, solving, where_form}
+use Rattle.solver.specs.Runs.{Run}
+use Rattle.solver.specs.Rules.{Work, branch, branches, node, plenty, solving, where_form}
 use Rattle.solver_laws.specs.Meaning.{Meets, Setting, SignRight, Yields}
 use Rattle.solver_laws.specs.Places.{Uses}
 use Rattle.solver_laws.proofs.Yields.{y-any, y-bar, y-bind, y-return, y-then, y-weaken}
-use Rattle.solver_laws.proofs.Induction.{AllSigned, Sound, new_work, plain_work, rows_in, settle-sound, turned_work}
+use Rattle.solver_laws.proofs.Induction.{AllSigned, Sound, new_work, rows_in, settle-sound}
 use Rattle.solver_laws.proofs.Formed.{Formed, formed-new, formed-plain, formed-turn, formed-where, row-shape, row-uses}
 use Rattle.solver_laws.proofs.Places.{meets-append, meets-unused, opposite-uses, spare-next}
 use Rattle.solver_laws.proofs.Signs.{sign-right}

@@ -1,7 +1,7 @@
 -- Places in use, and forms that hold at a setting, as a context grows.
-use Rattle.std.proofs.Common.{◌≡◌, ℕ, suc, ◌+◌, ◌<◌, ◌≤◌, ◌≢◌, List, [], ◌∷◌, ◌++◌, map, length, set, ℤ, pos, ◌-ℤ◌, neg_ℤ, ◌≤ℤ◌, sym, ap, ◌∙◌, inl, inr, arith, length-set}
+use Rattle.std.proofs.Common.{◌≡◌, ℕ, suc, ◌+◌, ◌<◌, ◌≢◌, List, [], ◌∷◌, ◌++◌, map, length, set, ℤ, pos, ◌-ℤ◌, neg_ℤ, ◌∙◌, inl, inr, arith, length-set}
 use Rattle.std.proofs.lemmas.List.{length-map}
-use Rattle.base.specs.Forms.{opposite, value_at}
+use Rattle.base.specs.Forms.{opposite}
 use Rattle.base.specs.Numbers.{at}
 use Rattle.tableau_laws.proofs.Settings.{value-unused}
 use Rattle.tableau_laws.proofs.Unused.{opposite-unused}

@@ -1,24 +1,19 @@
 -- Signs are right.
-use Rattle.std.proofs.Common.{◌≡◌, ℕ, zero, suc, ◌+◌, ◌<◌, ◌≤◌, Bool, true, false, ◌&&◌, T, List, [], ◌∷◌, ◌++◌, length, take, drop, ℤ, pos, ◌+ℤ◌, ◌-ℤ◌, neg_ℤ, ◌≤ℤ◌, ◌<ℤ◌, sym, refl, ap, ◌∙◌, subst, arith}
+use Rattle.std.proofs.Common.{◌≡◌, ◌≤◌, Bool, true, false, ◌&&◌, T, List, [], ◌∷◌, ◌++◌, length, ℤ, pos, ◌+ℤ◌, ◌≤ℤ◌, ◌<ℤ◌, sym, subst, arith}
 use borrow.Author.Differences.{ints}
 use lib.Signed.{le_z, le_z_yes, lt_z, lt_z_yes}
-use Rattle.std.proofs.lemmas.List.{get_or-drop, length-map}
 use Rattle.std.proofs.lemmas.Int.{by_lt_z}
 use Rattle.std.proofs.lemmas.Bool.{and_parts}
-use Rattle.base.specs.declared.refusal.Place.TheVariants.{Test}
 use Rattle.base.specs.Forms.{dot, opposite, value_at}
 use Rattle.base.specs.Numbers.{at}
 use Rattle.base.proofs.Values.{value-is}
 use Rattle.algebra.specs.Lists.{NonNeg, NonPos}
 use Rattle.algebra.proofs.Naturals.{dot-nonneg, dot-nonpos, nonneg-append}
 use Rattle.tableau_laws.proofs.Settings.{value-opposite}
-use Rattle.tableau_laws.proofs.Unused.{opposite-unused}
-use Rattle.solver.specs.declared.sign.Sign.{Sign}
 use Rattle.solver.specs.declared.sign.Sign.TheVariants.{NonNegative, Negative, Unknown}
-use Rattle.solver.specs.Runs.{Run, return, ◌>>=◌}
 use Rattle.solver.specs.Rules.{Work, after_above, after_below, none_above, none_below, sign_in, test_with}
-use Rattle.solver_laws.specs.Meaning.{HasSetting, Meets, Setting, SignRight, Yields}
-use Rattle.solver_laws.specs.Places.{AllUse, Spare, Uses}
+use Rattle.solver_laws.specs.Meaning.{HasSetting, Setting, SignRight, Yields}
+use Rattle.solver_laws.specs.Places.{AllUse, Uses}
 use Rattle.solver_laws.proofs.Yields.{y-bind, y-cond, y-return, y-then}
 use Rattle.solver_laws.proofs.Places.{all_append, meets-append, meets-left, meets-right, opposite-uses}
 use Rattle.solver_laws.proofs.Tests.{test-right}

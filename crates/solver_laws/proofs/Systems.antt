@@ -1,5 +1,5 @@
 -- A system's rows as rows of the table: the same points, and the same parameter points.
-use Rattle.std.proofs.Common.{◌≡◌, ℕ, zero, suc, ◌+◌, ◌-◌, ◌<◌, ◌≤◌, ◌⊎◌, List, [], ◌∷◌, ◌++◌, map, length, take, drop, replicate, ℤ, pos, ◌+ℤ◌, ◌*ℤ◌, nat_abs, ◌≤ℤ◌, Some, None, Option, sym, refl, ap, ◌∙◌, subst, inl, inr, arith}
+use Rattle.std.proofs.Common.{◌≡◌, ℕ, zero, suc, ◌+◌, ◌-◌, ◌<◌, ◌≤◌, List, [], ◌∷◌, ◌++◌, map, length, take, drop, ℤ, pos, ◌+ℤ◌, ◌*ℤ◌, nat_abs, Some, None, Option, sym, refl, ap, ◌∙◌, subst, inl, inr, arith}
 use Rattle.std.proofs.lemmas.List.{append_assoc, get_or_append_left, get_or-append_right, get_or-drop, length-append, length-drop, length-map, length-take-le, take-append-drop}
 use Rattle.base.specs.Numbers.{at}
 use Rattle.base.specs.Forms.{dot, value_at}
@@ -10,9 +10,7 @@ use Rattle.algebra.proofs.Naturals.{nonneg_pos, pos-sizes}
 use Rattle.algebra.proofs.Precedes.{lex-precedes}
 use Rattle.algebra.proofs.Ring.{◌⊕◌, ◌⊗◌, num, ring}
 use Rattle.algebra.proofs.Systems.{row-parts}
-use Rattle.source.specs.Systems.{AllHold, MeetsContext, Point, Precedes, System}
-use Rattle.tableau.specs.declared.table.Row.{Row}
-use Rattle.tableau_laws.specs.Ends.{Least, NoPoint}
+use Rattle.source.specs.Systems.{AllHold, MeetsContext, Point, System}
 use Rattle.tableau_laws.specs.Facts.{Point as LinePoint, Satisfied}
 use Rattle.tableau_laws.specs.Lines.{Line, Shaped, Unused, under}
 use Rattle.tableau_laws.specs.Start.{Plain}

@@ -1,5 +1,5 @@
 -- A test is right: it answers a point exactly where some setting meets the forms.
-use Rattle.std.proofs.Common.{◌≡◌, ℕ, zero, suc, ◌+◌, ◌-◌, ◌<◌, ◌≤◌, Bool, true, false, cond, T, ◌≢◌, List, [], ◌∷◌, ◌++◌, map, length, take, drop, ℤ, pos, negsuc, ◌+ℤ◌, ◌≤ℤ◌, ◌<ℤ◌, Some, None, Option, sym, refl, ap, ◌∙◌, subst, arith}
+use Rattle.std.proofs.Common.{◌≡◌, ℕ, zero, suc, ◌+◌, ◌-◌, ◌<◌, ◌≤◌, Bool, true, false, cond, T, ◌≢◌, List, [], ◌∷◌, ◌++◌, map, length, take, drop, ℤ, pos, negsuc, Some, None, Option, sym, refl, ap, ◌∙◌, subst, arith}
 use borrow.Author.Differences.{ints}
 use Rattle.std.proofs.lemmas.List.{drop-drop, get_or-append_right, get_or-drop, get_or-set_other, length-append, length-drop, length-take-le, take-append-drop}
 use Rattle.base.specs.declared.refusal.Place.TheVariants.{Test}
@@ -25,12 +25,10 @@ use Rattle.tableau_laws.proofs.Start.{start_right}
 use Rattle.tableau_laws.proofs.Unused.{constant-cut, pivoted-unused, plain-unused, unused-more, unused-of}
 use Rattle.tree.specs.Trees.{Tree}
 use Rattle.solver.specs.declared.sign.Sign.{Sign}
-use Rattle.solver.specs.declared.sign.Sign.TheVariants.{NonNegative, Negative, Unknown}
 use Rattle.solver.specs.Tests.{test_row, unit_row, unit_rows}
-use Rattle.solver.specs.Runs.{Run, return}
-use Rattle.solver.specs.Rules.{Work, fraction, has_point, plenty, settle, sign_of, test, test_work, testing}
+use Rattle.solver.specs.Rules.{Work, fraction, has_point, plenty, sign_of, test, test_work, testing}
 use Rattle.solver_laws.specs.Meaning.{HasSetting, Meets, Setting, SignOf, Yields}
-use Rattle.solver_laws.specs.Places.{AllUse, Uses}
+use Rattle.solver_laws.specs.Places.{AllUse}
 use Rattle.solver_laws.proofs.Yields.{y-bind, y-refuse, y-return}
 use Rattle.solver_laws.proofs.Gathers.{dot_at, dot-one, gathered}
 use Rattle.solver_laws.proofs.Induction.{AllSigned, Sound, plain_work, rows_in, settle-sound, turned_work}

@@ -4,7 +4,6 @@ use Rattle.base.specs.declared.refusal.Refusal.TheVariants.{NoParameterPoint}
 use Rattle.source.specs.Systems.{MeetsContext, System}
 use Rattle.tree.specs.Trees.{Tree}
 use Rattle.solver.specs.declared.count.Count.{Count}
-use Rattle.solver.specs.Runs.{Limits}
 use Rattle.solver.specs.Rules.{Work, sign_in, test}
 use Rattle.solver.specs.Solves.{context_of, fuel_fits, solved, system_fits}
 use Rattle.solver_laws.specs.Meaning.{HasSetting, SignRight, Yields}

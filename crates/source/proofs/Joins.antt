@@ -1,5 +1,5 @@
 -- Giving a system one more row: refused, or joined.
-use Rattle.std.proofs.Common.{◌≡◌, ℕ, cond, List, [], ◌∷◌, ◌++◌, ℤ, is_ok, Ok, Err, ap}
+use Rattle.std.proofs.Common.{◌≡◌, cond, List, ℤ, is_ok, Ok, Err, ap}
 use Rattle.base.specs.declared.refusal.Refusal.{Refusal}
 use Rattle.source.specs.Systems.{System}
 use Rattle.source.specs.Enters.{enter_answer, confine_answer, with_row, with_context_row, entered, confined}

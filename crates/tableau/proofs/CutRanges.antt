@@ -1,5 +1,5 @@
 -- The numbers of a cut, and of what is made of it, are in range.
-use Rattle.std.proofs.Common.{◌≡◌, ℕ, zero, suc, ◌-◌, ◌/◌, ◌%◌, ◌^◌, ◌<◌, ◌≤◌, List, [], ◌∷◌, map, set, ℤ, pos, negsuc, ◌+ℤ◌, ◌-ℤ◌, neg_ℤ, nat_abs, ◌≤ℤ◌, ◌<ℤ◌, Some, None, Option, ap, ◌∙◌, mod-lt, div-le_self, arith}
+use Rattle.std.proofs.Common.{◌≡◌, ℕ, zero, suc, ◌/◌, ◌%◌, ◌^◌, ◌<◌, ◌≤◌, List, [], ◌∷◌, map, set, ℤ, pos, negsuc, ◌+ℤ◌, ◌-ℤ◌, neg_ℤ, nat_abs, ◌≤ℤ◌, ◌<ℤ◌, Some, None, Option, ap, ◌∙◌, mod-lt, div-le_self, arith}
 use Rattle.std.proofs.lemmas.Int.{ints}
 use Rattle.base.specs.Numbers.{AllWithin, at, mod_by, quot_by}
 use Rattle.base.proofs.Products.{nat_abs-neg}

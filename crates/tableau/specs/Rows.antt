@@ -1,5 +1,5 @@
 -- A row of the working table: its value times `div` is `coefs` times the basic unknowns, plus `form`.
-use Rattle.std.specs.Prelude.{◌≡◌, ℕ, ◌^◌, ◌<◌, ◌≤◌, Bool, ◌&&◌, List, [], ◌∷◌, map, ℤ, pos, ◌-ℤ◌, ◌*ℤ◌, ◌≤ℤ◌, slice_set, unsigned_abs}
+use Rattle.std.specs.Prelude.{◌≡◌, ℕ, ◌^◌, ◌<◌, Bool, ◌&&◌, List, [], ◌∷◌, map, ℤ, pos, ◌-ℤ◌, ◌*ℤ◌, ◌≤ℤ◌, slice_set, unsigned_abs}
 use Rattle.base.specs.Numbers.{AllWithin, Divides, DividesAll, at, gcds, in_range, quot_by, within}
 use Rattle.tableau.specs.declared.table.Row.{Row}
 

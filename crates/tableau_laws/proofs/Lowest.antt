@@ -1,7 +1,6 @@
 -- Lowest terms keep what a row says.
 use Rattle.std.proofs.Common.{◌≡◌, List, [], ◌∷◌, ◌++◌, ℤ, pos, ◌+ℤ◌, ◌*ℤ◌, ◌<ℤ◌, sym, refl, ap, ◌∙◌, subst, arith}
 use borrow.Author.Differences.{ints}
-use Rattle.base.specs.Numbers.{at}
 use Rattle.base.specs.Forms.{dot, value_at}
 use Rattle.tableau.specs.declared.table.Row.{Row}
 use Rattle.tableau.specs.Rows.{gcd_of, lowest, times}

@@ -6,7 +6,7 @@ use Rattle.std.proofs.lemmas.Nat.{mul-le}
 use Rattle.std.proofs.lemmas.Int.{ints}
 use Rattle.std.proofs.lemmas.Bool.{and_parts, false≢true, leb-true, ltb-true}
 use Rattle.base.specs.Forms.{dot, value_at}
-use Rattle.base.specs.Numbers.{AllWithin, at, floor_div}
+use Rattle.base.specs.Numbers.{AllWithin, floor_div}
 use Rattle.tree.specs.Answers.{gaining}
 use Rattle.tree.specs.Finds.{all_below, is_point, proper, spread}
 use Rattle.tree.specs.declared.walk.Walk.{Walk}

@@ -1,9 +1,8 @@
-use Rattle.std.proofs.Common.{◌≡◌, ◌^◌, get_or, drop, pos, ◌+ℤ◌, ◌*ℤ◌, nat_abs, sym, ap, ◌∙◌, subst, arith, w64, SFits, rules}
-use Rattle.std.proofs.lemmas.List.{at_drop_all}
+use Rattle.std.proofs.Common.{◌≡◌, ◌^◌, get_or, drop, pos, ◌+ℤ◌, ◌*ℤ◌, sym, ◌∙◌, arith, w64, SFits, rules}
 use Rattle.std.proofs.lemmas.Int.{ints, to_z-of_z}
 use Rattle.base.specs.Numbers.{at}
 use Rattle.base.specs.Forms.{dot}
-use Rattle.base.proofs.Products.{add-within, mul-within}
+use Rattle.base.proofs.Products.{mul-within}
 use Rattle.base.proofs.Values.{dot-more, dot-past, value-is}
 use Rattle.base.proofs.form.value.Goals as goal
 

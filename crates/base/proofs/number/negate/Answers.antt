@@ -1,4 +1,4 @@
-use Rattle.std.proofs.Common.{◌^◌, ◌≤◌, get_or, pos, neg_ℤ, nat_abs, sym, ap, ◌∙◌, subst, arith, w64, SFits, rules}
+use Rattle.std.proofs.Common.{◌^◌, ◌≤◌, get_or, pos, neg_ℤ, nat_abs, sym, ◌∙◌, subst, arith, w64, SFits, rules}
 use Rattle.std.proofs.lemmas.List.{length-map}
 use Rattle.std.proofs.lemmas.Int.{to_z-of_z}
 use Rattle.base.proofs.Fill.{filled_none, filled-all}

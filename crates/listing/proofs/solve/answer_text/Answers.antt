@@ -1,6 +1,6 @@
-use Rattle.std.proofs.Common.{◌≡◌, ◌-◌, length, take, replicate, IfOk, string_bytes, sym, ap, ◌∙◌, subst, rules}
+use Rattle.std.proofs.Common.{◌≡◌, ◌-◌, take, replicate, IfOk, string_bytes, ap, ◌∙◌, subst, rules}
 use Rattle.tree.specs.declared.node.Node.TheVariants.{None as Blank}
-use Rattle.listing.specs.Solving.{answer_text, shown_by, text_solved, work_left}
+use Rattle.listing.specs.Solving.{answer_text, shown_by, work_left}
 use Rattle.listing.specs.Texts.{tree_text}
 use Rattle.listing.proofs.SolveSteps.{take_within}
 use Rattle.listing.proofs.solve.answer_text.Goals as goal

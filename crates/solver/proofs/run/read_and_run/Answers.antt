@@ -1,4 +1,4 @@
-use Rattle.std.proofs.Common.{◌≡◌, ◌∷◌, map, length, nat_abs, Err, sym, ap, ◌∙◌, subst, arith, w64, rules}
+use Rattle.std.proofs.Common.{◌≡◌, ◌∷◌, map, length, nat_abs, Err, sym, ap, ◌∙◌, subst, arith, w64}
 use Rattle.std.proofs.lemmas.Result.{err_from_is_err_and}
 use Rattle.std.proofs.lemmas.Int.{ints, to_z-of_z}
 use Rattle.base.specs.declared.refusal.Refusal.TheVariants.{Fuel}

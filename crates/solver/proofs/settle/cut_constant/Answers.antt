@@ -1,4 +1,4 @@
-use Rattle.std.proofs.Common.{◌≡◌, ℕ, suc, ◌+◌, None, Ok, Err, sym, refl, ap, ◌∙◌, add-one, rules}
+use Rattle.std.proofs.Common.{None, Err, sym, refl, ap, ◌∙◌, rules}
 use Rattle.std.proofs.lemmas.Result.{err_from_is_err_and, IfOk-from_err}
 use Rattle.base.specs.declared.refusal.Place.TheVariants.{Node}
 use Rattle.tableau.specs.Cuts.{cut_row}
@@ -6,7 +6,7 @@ use Rattle.solver.specs.Bounds.{in_force}
 use Rattle.solver.specs.Ends.{worked}
 use Rattle.solver.specs.Rules.{with_row}
 use Rattle.solver.specs.Runs.{next}
-use Rattle.solver.specs.Ties.{limits, moved, work_of}
+use Rattle.solver.specs.Ties.{limits, work_of}
 use Rattle.solver.proofs.Cutting.{cut-plain, once_ticked}
 use Rattle.solver.proofs.Settling.{worked-after}
 use Rattle.solver.proofs.settle.cut_constant.Goals as goal

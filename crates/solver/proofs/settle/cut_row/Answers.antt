@@ -1,4 +1,4 @@
-use Rattle.std.proofs.Common.{◌≡◌, cond, ltb, [], ◌∷◌, length, get_or, Err, sym, refl, ap, ◌∙◌, arith, rules}
+use Rattle.std.proofs.Common.{cond, ltb, [], ◌∷◌, length, get_or, Err, sym, refl, ap, ◌∙◌, arith}
 use Rattle.base.specs.declared.refusal.Place.TheVariants.{Node}
 use Rattle.base.specs.declared.refusal.Refusal.TheVariants.{Cuts, FuelSpent, NewParameters}
 use Rattle.tableau.specs.Cuts.{cut_of, is_constant}

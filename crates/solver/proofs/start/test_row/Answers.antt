@@ -1,4 +1,4 @@
-use Rattle.std.proofs.Common.{◌≡◌, ◌+◌, ◌^◌, ◌≤◌, get_or, set, replicate, pos, nat_abs, sym, ap, ◌∙◌, subst, arith, w64, SFits, to_z, of_z, rules}
+use Rattle.std.proofs.Common.{◌+◌, ◌^◌, get_or, set, replicate, pos, sym, subst, arith, w64, SFits, rules}
 use Rattle.std.proofs.lemmas.Int.{to_z-of_z}
 use Rattle.base.proofs.Fill.{Filled, filled-all, filled_more, filled_none}
 use Rattle.solver.specs.Tests.{test_row}

@@ -1,14 +1,13 @@
-use Rattle.std.proofs.Common.{◌≡◌, ℕ, suc, ◌<◌, cond, ltb, [], get_or, None, Ok, Err, sym, ap, ◌∙◌, subst, arith, rules}
+use Rattle.std.proofs.Common.{◌≡◌, suc, ◌<◌, cond, ltb, [], get_or, None, Err, sym, ap, ◌∙◌, subst, arith, rules}
 use Rattle.std.proofs.lemmas.Result.{err_from_is_err_and, IfOk-from_err}
 use Rattle.base.specs.declared.refusal.Place.TheVariants.{Test}
 use Rattle.tableau.specs.Cuts.{cut_of, cut_row}
 use Rattle.base.specs.declared.refusal.Refusal.TheVariants.{Cuts, FuelSpent}
 use Rattle.tableau.specs.Tables.{no_row}
-use Rattle.tree.specs.Trees.{Tree}
 use Rattle.solver.specs.Bounds.{ConstForm}
-use Rattle.solver.specs.Rules.{Work, cut, with_row}
-use Rattle.solver.specs.Runs.{Run, met_at, next}
-use Rattle.solver.specs.Ties.{limits, test_of, tested, ticked}
+use Rattle.solver.specs.Rules.{with_row}
+use Rattle.solver.specs.Runs.{met_at, next}
+use Rattle.solver.specs.Ties.{limits, test_of, tested}
 use Rattle.solver.proofs.Constants.{const-at, const-cut-row}
 use Rattle.solver.proofs.Cutting.{cut-many, once_ticked, test-cut-is}
 use Rattle.solver.proofs.Testing.{tested-is}

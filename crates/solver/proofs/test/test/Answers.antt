@@ -1,7 +1,7 @@
-use Rattle.std.proofs.Common.{◌≡◌, ℕ, suc, ◌+◌, ◌<◌, ◌≤◌, map, Ok, Err, sym, refl, ap, ◌∙◌, subst, add-one, arith, rules}
+use Rattle.std.proofs.Common.{suc, ◌+◌, map, Ok, Err, sym, refl, ap, ◌∙◌, subst, add-one, arith}
 use Rattle.std.proofs.lemmas.Result.{err_from_is_err_and, IfOk-from_err}
 use Rattle.base.specs.Numbers.{quot_by}
-use Rattle.tableau.specs.Tables.{in_use, top}
+use Rattle.tableau.specs.Tables.{top}
 use Rattle.tree.specs.Trees.{leaf, none}
 use Rattle.solver.specs.Bounds.{AllConst, in_force}
 use Rattle.solver.specs.Rules.{settle, testing}

@@ -1,4 +1,4 @@
-use Rattle.std.proofs.Common.{◌≡◌, take, Err, sym, ap, ◌∙◌, rules}
+use Rattle.std.proofs.Common.{take, Err, sym, ap, ◌∙◌, rules}
 use Rattle.base.specs.declared.refusal.Refusal.TheVariants.{Range}
 use Rattle.solver.specs.Bounds.{in_force}
 use Rattle.solver.specs.Ties.{limits}

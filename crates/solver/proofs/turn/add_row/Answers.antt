@@ -1,4 +1,4 @@
-use Rattle.std.proofs.Common.{◌≡◌, true, false, get_or, Some, None, Ok, Err, sym, refl, ap, ◌∙◌, subst, arith, rules}
+use Rattle.std.proofs.Common.{◌≡◌, get_or, Some, None, Err, sym, refl, ap, ◌∙◌, subst, rules}
 use Rattle.base.specs.declared.refusal.Refusal.TheVariants.{Range}
 use Rattle.tableau.specs.Columns.{entering}
 use Rattle.tableau.specs.Tables.{no_row, top}
