@@ -1,5 +1,5 @@
 -- Rows of one length and of small numbers, and that a nest keeps its limits.
-use Rattle.std.proofs.Common.{◌≡◌, ℕ, zero, suc, ◌+◌, ◌<◌, ◌≤◌, Bool, true, false, cond, ◌&&◌, eqb, ltb, leb, List, [], ◌∷◌, ◌++◌, map, length, get_or, take, set, replicate, ℤ, pos, nat_abs, is_ok, Some, None, Ok, Err, Option, sym, refl, ap, ◌∙◌, subst, arith}
+use Rattle.std.proofs.Common.{◌≡◌, ℕ, zero, suc, ◌+◌, ◌<◌, ◌≤◌, Bool, true, false, cond, ◌&&◌, eqb, ltb, List, [], ◌∷◌, ◌++◌, map, length, get_or, take, set, replicate, ℤ, pos, nat_abs, is_ok, Some, None, Ok, Err, Option, refl, ap, ◌∙◌, arith}
 use Rattle.std.proofs.lemmas.List.{get_or-replicate, length_push, length-replicate, length-set, map-set, take-replicate}
 use Rattle.std.proofs.lemmas.Bool.{and_from, and_parts, cond-true, eq-eqb, eqb-true, le-leb, leb-true, lt-ltb, ltb-true}
 use Rattle.base.specs.declared.refusal.Refusal.TheVariants.{RowShape}
@@ -88,10 +88,29 @@ shaped_of s =
 -- what a nest's ghost fields ask
 abbrev pub Parts : Loops → Type 0
 Parts L =
-    (length L.bounds ≡ L.n) × (AllLong (L.p + 1) L.bounds × (AllSmall 300 L.bounds × ((length L.cells ≤ 3) × (AllLong (L.n + L.p + 1) L.cells × (AllSmall 300 L.cells × (AllLong (L.p + 1) L.context × (AllSmall 1000000 L.context × Unit {0})))))))
+    record {
+      each_bounded : length L.bounds ≡ L.n;
+      bounds_long : AllLong (L.p + 1) L.bounds;
+      bounds_small : AllSmall 300 L.bounds;
+      few_cells : length L.cells ≤ 3;
+      cells_long : AllLong (L.n + L.p + 1) L.cells;
+      cells_small : AllSmall 300 L.cells;
+      context_long : AllLong (L.p + 1) L.context;
+      context_small : AllSmall 1000000 L.context;
+    }
 
 pub parts : (L : Loops) → Shaped L → Parts L
-parts L h = (h.each_bounded, (h.bounds_long, (h.bounds_small, (h.few_cells, (h.cells_long, (h.cells_small, (h.context_long, (h.context_small, tt))))))))
+parts L h =
+    record {
+      each_bounded = h.each_bounded;
+      bounds_long = h.bounds_long;
+      bounds_small = h.bounds_small;
+      few_cells = h.few_cells;
+      cells_long = h.cells_long;
+      cells_small = h.cells_small;
+      context_long = h.context_long;
+      context_small = h.context_small;
+    }
 
 -- ---- at the start
 map-replicate : {A B : Type 0} (f : A → B) (n : ℕ) (a : A) → map f (replicate n a) ≡ replicate n (f a)

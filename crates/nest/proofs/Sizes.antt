@@ -1,14 +1,13 @@
 -- How large the numbers of a nest's rows are, and that none of them is out of limits.
-use Rattle.std.proofs.Common.{◌≡◌, ℕ, zero, suc, ◌+◌, ◌-◌, ◌*◌, ◌<◌, ◌≤◌, List, [], ◌∷◌, ◌++◌, map, length, get_or, ℤ, pos, ◌+ℤ◌, ◌-ℤ◌, ◌*ℤ◌, neg_ℤ, nat_abs, sym, refl, ap, ◌∙◌, subst, ⊎_elim, arith, w64, SFits, to_z, of_z}
+use Rattle.std.proofs.Common.{◌≡◌, ℕ, suc, ◌+◌, ◌-◌, ◌*◌, ◌<◌, ◌≤◌, List, [], ◌∷◌, length, get_or, ℤ, pos, ◌-ℤ◌, ◌*ℤ◌, neg_ℤ, nat_abs, sym, ap, ◌∙◌, subst, ⊎_elim, arith, w64, SFits, to_z, of_z}
 use Rattle.std.proofs.lemmas.Int.{ints, to_z-of_z}
 use Rattle.std.proofs.lemmas.Bool.{cases_lt}
 use Rattle.base.specs.Numbers.{AllWithin, at}
 use Rattle.base.specs.Forms.{dot}
 use Rattle.base.proofs.Products.{add-within, mul-within, nat_abs-neg}
-use Rattle.source.specs.Systems.{entry}
 use Rattle.algebra.specs.Lists.{column}
-use Rattle.nest.specs.Loops.{AllLong, AllSmall, Loops, Shaped}
-use Rattle.nest.specs.Tables.{cell_rows, in_unknowns}
+use Rattle.nest.specs.Loops.{Loops, Shaped}
+use Rattle.nest.specs.Tables.{in_unknowns}
 use Rattle.nest.proofs.Rows.{at-column, length-column, parameter-at, unknown-at}
 
 pub dot-within : (xs ys : List ℤ) (a b : ℕ) → AllWithin a xs → AllWithin b ys → nat_abs (dot xs ys) ≤ length ys * (a * b)

@@ -1,5 +1,5 @@
 -- The system of a nest. Its unknown i stands for the bound of loop i minus its counter.
-use Rattle.std.specs.Prelude.{ℕ, suc, List, [], ◌∷◌, ◌++◌, map, take, drop, ℤ, pos, negsuc, neg_ℤ, slice_set}
+use Rattle.std.specs.Prelude.{ℕ, suc, List, [], ◌∷◌, ◌++◌, map, take, drop, ℤ, negsuc, neg_ℤ, slice_set}
 use Rattle.source.specs.Systems.{System}
 use Rattle.algebra.specs.Lists.{plus, scaled, zeros}
 use Rattle.nest.specs.Loops.{Loops}

@@ -1,15 +1,14 @@
 -- The system of a nest is within the limits of a system.
-use Rattle.std.proofs.Common.{◌≡◌, ℕ, zero, suc, ◌+◌, ◌*◌, ◌≤◌, Bool, true, cond, ◌&&◌, leb, List, [], ◌∷◌, ◌++◌, map, length, get_or, set, ℤ, pos, negsuc, neg_ℤ, nat_abs, Ok, Err, sym, refl, ap, ◌∙◌, subst, arith}
+use Rattle.std.proofs.Common.{◌≡◌, ℕ, zero, suc, ◌+◌, ◌≤◌, ◌&&◌, leb, List, [], ◌∷◌, ◌++◌, map, length, set, ℤ, negsuc, neg_ℤ, nat_abs, Ok, Err, refl, ap, ◌∙◌, arith}
 use Rattle.std.proofs.lemmas.List.{length-append}
 use Rattle.std.proofs.lemmas.Bool.{and_from, cond-true, le-leb}
 use Rattle.base.specs.declared.refusal.Refusal.TheVariants.{Counts}
 use Rattle.base.specs.Numbers.{AllWithin, at}
 use Rattle.base.proofs.Products.{nat_abs-neg}
 use Rattle.source.specs.Limits.{counts_answer, counts_fit, numbers_answer, refused_at}
-use Rattle.source.specs.Systems.{entry}
 use Rattle.algebra.specs.Lists.{zeros}
 use Rattle.algebra.proofs.Dots.{at-negs, at-zeros}
-use Rattle.solver.specs.Solves.{and_then, fitted, numbers_fit, rows_of, system_fits}
+use Rattle.solver.specs.Solves.{fitted, numbers_fit, rows_of}
 use Rattle.nest.specs.Loops.{AllLong, AllSmall, Loops, Shaped}
 use Rattle.nest.specs.Tables.{cell_rows, in_unknowns, loop_rows, system_of}
 use Rattle.nest.proofs.Rows.{length-cell_rows, length-loop_rows}

@@ -1,6 +1,6 @@
 -- Points and postings correspond, and so the least point is the latest posting.
-use Rattle.std.proofs.Common.{◌≡◌, ℕ, ◌+◌, ◌<◌, ◌⊎◌, List, [], ◌∷◌, ◌++◌, map, length, get_or, ℤ, pos, Some, None, Option, sym, ap, ◌∙◌, subst, inl, inr, arith}
-use Rattle.source.specs.Systems.{MeetsContext, Point, Precedes}
+use Rattle.std.proofs.Common.{◌≡◌, ℕ, ◌+◌, ◌⊎◌, List, ◌++◌, map, ℤ, pos, Some, None, Option, sym, ap, ◌∙◌, subst, inl, inr, arith}
+use Rattle.source.specs.Systems.{Point, Precedes}
 use Rattle.tree.specs.Answers.{answer_at}
 use Rattle.nest.specs.Backs.{bounds_less}
 use Rattle.nest.specs.Loops.{AllLong, Loops, Shaped}

@@ -1,13 +1,11 @@
 -- Unknowns and counters that add up to the bounds.
-use Rattle.std.proofs.Common.{◌≡◌, ℕ, zero, suc, ◌+◌, ◌<◌, ◌≤◌, ◌⊎◌, List, [], ◌∷◌, ◌++◌, map, length, get_or, take, drop, ℤ, pos, ◌+ℤ◌, ◌-ℤ◌, ◌*ℤ◌, neg_ℤ, nat_abs, ◌≤ℤ◌, sym, refl, ap, ◌∙◌, ap₂, inl, inr, arith}
+use Rattle.std.proofs.Common.{◌≡◌, ℕ, suc, ◌<◌, List, [], ◌∷◌, ◌++◌, map, length, take, drop, ℤ, pos, ◌+ℤ◌, ◌-ℤ◌, neg_ℤ, nat_abs, ◌≤ℤ◌, refl, ap, ap₂, inl, inr, arith}
 use borrow.Author.Differences.{ints}
-use Rattle.std.proofs.lemmas.List.{length-map}
 use Rattle.base.specs.Numbers.{at}
 use Rattle.base.specs.Forms.{dot, value_at}
 use Rattle.source.specs.Systems.{Precedes}
-use Rattle.algebra.specs.Lists.{NonNeg, products}
+use Rattle.algebra.specs.Lists.{products}
 use Rattle.algebra.proofs.Claims.{given, goal, ring-from}
-use Rattle.algebra.proofs.Naturals.{pos-sizes}
 use Rattle.algebra.proofs.Ring.{◌⊕◌, ◌⊗◌, num, ⊝◌}
 use Rattle.nest.specs.Backs.{bounds_less}
 use Rattle.nest_laws.specs.Postings.{Later, UpToBounds}

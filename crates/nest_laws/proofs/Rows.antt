@@ -1,11 +1,10 @@
 -- When the rows of a nest hold: the unknowns are within the bounds, and the conditions are met by the counters.
-use Rattle.std.proofs.Common.{◌≡◌, ℕ, zero, suc, ◌+◌, ◌-◌, ◌<◌, ◌≤◌, List, [], ◌∷◌, ◌++◌, map, length, get_or, take, drop, set, ℤ, pos, negsuc, ◌+ℤ◌, ◌-ℤ◌, ◌*ℤ◌, neg_ℤ, ◌≤ℤ◌, sym, refl, ap, ◌∙◌, subst, ap₂, arith}
+use Rattle.std.proofs.Common.{◌≡◌, ℕ, zero, suc, ◌+◌, ◌-◌, ◌<◌, List, [], ◌∷◌, ◌++◌, map, length, get_or, take, drop, set, ℤ, pos, negsuc, ◌+ℤ◌, ◌-ℤ◌, ◌*ℤ◌, neg_ℤ, ◌≤ℤ◌, sym, refl, ap, ◌∙◌, subst, ap₂, arith}
 use borrow.Author.Differences.{ints}
 use Rattle.std.proofs.lemmas.List.{drop_at, get_or-map, length-drop, take_at}
-use Rattle.base.specs.Numbers.{at}
 use Rattle.base.specs.Forms.{dot, value_at}
 use Rattle.source.specs.Systems.{AllHold, Holds}
-use Rattle.algebra.specs.Lists.{plus, products, scaled, zeros}
+use Rattle.algebra.specs.Lists.{products, scaled, zeros}
 use Rattle.algebra.proofs.Dots.{at-zeros, dot-comm, dot-negs, dot-plus, dot-zeros, length-scaled, length-zeros, scaled-dot, set-dot}
 use Rattle.algebra.proofs.Ring.{◌⊕◌, ◌⊖◌, ◌⊗◌, num, ring}
 use Rattle.algebra.proofs.Systems.{row-parts}

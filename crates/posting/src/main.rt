@@ -51,7 +51,7 @@ fn first_line(line: &[u8]) -> Result<Reading, Refusal> {
     let (word, rest) = first_word(line);
     let mut places = [0; MOST];
     let count = numbers_of(rest, &mut places)?;
-    if word != b"loops" || count != 2 {
+    if word != b"loops".as_slice() || count != 2 {
         return Err(Refusal::Listing);
     }
     let n = usize::try_from(places[0]).unwrap_or(MOST);
@@ -124,7 +124,7 @@ fn take_line(
         Err(refusal) => return Ok(Err(refusal)),
     };
     let numbers = &places[0..count];
-    if word == b"at" {
+    if word == b"at".as_slice() {
         answer(rt, &reading.nest, numbers)?;
         return Ok(Ok(()));
     }

@@ -4,8 +4,8 @@ use Rattle.std.proofs.lemmas.Int.{to_z-of_z}
 use Rattle.nest.specs.Limits.{all_small, is_small}
 use Rattle.nest.proofs.numbers.all_small.Goals as goal
 
-pub returns-then-not-is-small : goal.returns-then-not-is-small
-returns-then-not-is-small c =
+pub returns-then-not-is_small : goal.returns-then-not-is_small
+returns-then-not-is_small c =
     let xs = c.args.numbers.now in
     let i = c.loop-x.x-index in
     let f : SFits w64 (get_or xs i (pos 0)) = search rules in

@@ -1,4 +1,4 @@
-use Rattle.std.proofs.Common.{arith, rules}
+use Rattle.std.proofs.Common.{rules}
 use Rattle.nest.proofs.Shapes.{all-within}
 use Rattle.nest.proofs.numbers.check_given.Goals as goal
 

@@ -20,7 +20,7 @@ returns-then-not-reaches c =
     let V = value_at (get_or B i []) R in
     let f : SFits w64 x = search rules in
     let t : false ≡ (le_z (pos 0) x && le_z x V) =
-    c.if-not-reaches.ensures.value ∙ ap₂ (λ (y v : ℤ). le_z (pos 0) y && le_z y v) (to_z-of_z w64 x f) c.bound-at.ensures.value in
+    c.if-not-reaches.ensures.value ∙ ap₂ (λ (y v : ℤ). le_z (pos 0) y && le_z y v) (to_z-of_z w64 x f) c.bound_at.ensures.value in
     let m = reached-more B R xs i (omega (arith, s.each_bounded)) (search rules) in
     record { value = sym (sym c.loop-i.invariant ∙ m ∙ ap (λ (b : Bool). b && reached (drop (i + 1) B) R (drop (i + 1) xs)) (sym t)) }
 
@@ -35,7 +35,7 @@ loop-i-preserved c =
     let V = value_at (get_or B i []) R in
     let f : SFits w64 x = search rules in
     let t : true ≡ (le_z (pos 0) x && le_z x V) =
-    c.if-not-reaches.ensures.value ∙ ap₂ (λ (y v : ℤ). le_z (pos 0) y && le_z y v) (to_z-of_z w64 x f) c.bound-at.ensures.value in
+    c.if-not-reaches.ensures.value ∙ ap₂ (λ (y v : ℤ). le_z (pos 0) y && le_z y v) (to_z-of_z w64 x f) c.bound_at.ensures.value in
     let m = reached-more B R xs i (omega (arith, s.each_bounded)) (search rules) in
     sym (sym c.loop-i.invariant ∙ m ∙ ap (λ (b : Bool). b && reached (drop (i + 1) B) R (drop (i + 1) xs)) (sym t))
 

@@ -1,4 +1,4 @@
-use Rattle.std.proofs.Common.{◌≡◌, ◌+◌, ◌<◌, cond, length, is_ok, Ok, Result, sym, refl, ap, ◌∙◌, subst, rules}
+use Rattle.std.proofs.Common.{◌≡◌, ◌+◌, ◌<◌, cond, length, is_ok, Ok, Result, sym, refl, ap, ◌∙◌, subst}
 use Rattle.base.specs.declared.refusal.Refusal.{Refusal}
 use Rattle.source.specs.RowSources.{meaning_of}
 use Rattle.nest.specs.Loops.{Shaped}
@@ -6,11 +6,11 @@ use Rattle.nest.specs.Acts.{cell_answer, nest_of}
 use Rattle.nest.proofs.Shapes.{cell-entered, cell-joined, parts, plus_cell, shaped-cell, shaped_of}
 use Rattle.nest.proofs.nest.Nest.cell.Goals as goal
 
-pub invariant-of-self : goal.invariant-of-self
-invariant-of-self c =
+pub invariant_of-self : goal.invariant_of-self
+invariant_of-self c =
     let s = c.args.self.now in
     let numbers = c.args.numbers.now in
-    let f = c.in-ok-check-given.ensures.fits in
+    let f = c.in_ok-check_given.ensures.fits in
     let e : length numbers ≡ s.kept.n + s.kept.p + 1 = f.0 ∙ rw (c.unknowns.ensures.value, c.parameters.ensures.value) refl in
     let l : length (nest_of s).cells < 3 = subst (λ m. m < 3) c.rows.ensures.value f.1 in
     let w = cell-joined (meaning_of s.kept) (meaning_of c.enter.new.self) s.bounds numbers e l f.2 c.enter.ensures.left in
@@ -20,7 +20,7 @@ pub returns : goal.returns
 returns c =
     let s = c.args.self.now in
     let numbers = c.args.numbers.now in
-    let g = c.in-ok-check-given.ensures in
+    let g = c.in_ok-check_given.ensures in
     let f = g.fits in
     let e : length numbers ≡ s.kept.n + s.kept.p + 1 = f.0 ∙ rw (c.unknowns.ensures.value, c.parameters.ensures.value) refl in
     let l : length (nest_of s).cells < 3 = subst (λ m. m < 3) c.rows.ensures.value f.1 in

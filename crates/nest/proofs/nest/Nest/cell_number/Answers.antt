@@ -27,12 +27,12 @@ returns-else-column-n c =
     let B = (nest_of s).bounds in
     let n = s.kept.n in
     let j = c.args.column in
-    let f : SFits w64 c.put-in.result = search rules in
+    let f : SFits w64 c.put_in.result = search rules in
     let l = s.cells_long c.args.cell c.requires.known in
     record {
       value =
-          to_z-of_z w64 c.put-in.result f
-          ∙ c.put-in.ensures.value
+          to_z-of_z w64 c.put_in.result f
+          ∙ c.put_in.ensures.value
           ∙ ap (λ m. at C (n + (j - m)) +ℤ dot C (column B (j - m))) c.unknowns-n.ensures.value
           ∙ sym (parameter-at n (s.kept.p + 1) B C j (omega (arith, l)) s.bounds_long (omega arith));
     }

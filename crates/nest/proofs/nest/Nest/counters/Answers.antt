@@ -9,20 +9,20 @@ use Rattle.nest.specs.Backs.{bounds_less}
 use Rattle.nest.proofs.Counters.{at_less, length-less, less-fits, reached-at}
 use Rattle.nest.proofs.nest.Nest.counters.Goals as goal
 
-pub overflow-sub-counters : goal.overflow-sub-counters
-overflow-sub-counters c =
+pub overflow_sub-counters : goal.overflow_sub-counters
+overflow_sub-counters c =
     let s = c.args.self.now in
     let B = (nest_of s).bounds in
     let R = c.args.point.now in
     let xs = c.args.numbers.now in
     let i = c.loop-i.i in
     let x = at xs i in
-    let b = c.bound-at.result.value in
+    let b = c.bound_at.result.value in
     let f : SFits w64 x = search rules in
     let g : SFits w64 b = search rules in
     let r = reached-at B R xs i c.requires.within (omega (arith, s.each_bounded)) (search rules) in
-    let h : x ≤ℤ b = subst (λ z. x ≤ℤ z) (sym c.bound-at.ensures.value) r.1 in
-    let k : SFits w64 (b -ℤ x) = less-fits x b r.0 h c.bound-at.ensures.size in
+    let h : x ≤ℤ b = subst (λ z. x ≤ℤ z) (sym c.bound_at.ensures.value) r.1 in
+    let k : SFits w64 (b -ℤ x) = less-fits x b r.0 h c.bound_at.ensures.size in
     simp to_z-of_z k
 
 pub loop-i-preserved : goal.loop-i-preserved
@@ -33,16 +33,16 @@ loop-i-preserved c =
     let xs = c.args.numbers.now in
     let i = c.loop-i.i in
     let x = at xs i in
-    let b = c.bound-at.result.value in
+    let b = c.bound_at.result.value in
     let f : SFits w64 x = search rules in
     let g : SFits w64 b = search rules in
     let r = reached-at B R xs i c.requires.within (omega (arith, s.each_bounded)) (search rules) in
-    let h : x ≤ℤ b = subst (λ z. x ≤ℤ z) (sym c.bound-at.ensures.value) r.1 in
-    let k : SFits w64 (b -ℤ x) = less-fits x b r.0 h c.bound-at.ensures.size in
+    let h : x ≤ℤ b = subst (λ z. x ≤ℤ z) (sym c.bound_at.ensures.value) r.1 in
+    let k : SFits w64 (b -ℤ x) = less-fits x b r.0 h c.bound_at.ensures.size in
     let v : to_z w64 (of_z w64 (to_z w64 (of_z w64 b) -ℤ to_z w64 (of_z w64 x))) ≡ at (bounds_less B R xs) i =
     ap (λ z. to_z w64 (of_z w64 z)) (ap₂ (λ (y z : ℤ). y -ℤ z) (to_z-of_z w64 b g) (to_z-of_z w64 x f))
     ∙ to_z-of_z w64 (b -ℤ x) k
-    ∙ ap (λ z. z -ℤ x) c.bound-at.ensures.value
+    ∙ ap (λ z. z -ℤ x) c.bound_at.ensures.value
     ∙ sym (at_less B R xs i (omega (arith, s.each_bounded)) (search rules)) in
     let six : length xs ≡ 6 = search rules in
     let l : length (bounds_less B R xs) ≡ length B = length-less B R xs (omega (arith, s.each_bounded, six)) in

@@ -1,4 +1,4 @@
-use Rattle.std.proofs.Common.{◌≡◌, ℕ, ◌≤◌, Bool, true, false, cond, ◌&&◌, leb, replicate, pos, Ok, Err, sym, refl, ap, ◌∙◌, subst, arith}
+use Rattle.std.proofs.Common.{◌≡◌, ℕ, ◌≤◌, Bool, true, false, cond, ◌&&◌, leb, replicate, pos, Ok, Err, sym, refl, ap, ◌∙◌, subst}
 use Rattle.std.proofs.lemmas.Bool.{and_parts, cond-true, leb-true}
 use Rattle.base.specs.declared.refusal.Refusal.TheVariants.{Counts}
 use Rattle.source.specs.Systems.{System}
@@ -6,7 +6,7 @@ use Rattle.source.specs.Limits.{counts_fit}
 use Rattle.source.specs.RowSources.{bare, meaning_of, new_answer as rows_answer}
 use Rattle.source.specs.declared.rows.RowSource.{RowSource}
 use Rattle.nest.specs.Loops.{Shaped, loops_of, loops_from}
-use Rattle.nest.specs.Acts.{new_answer, plain}
+use Rattle.nest.specs.Acts.{plain}
 use Rattle.nest.proofs.Shapes.{fresh, parts, shaped-plain}
 use Rattle.nest.proofs.nest.Nest.new.Goals as goal
 
@@ -28,12 +28,12 @@ in-counts n p e =
     let d = and_parts (leb p 4) (leb 0 16 && leb 0 8) b.1 in
     (leb-true 1 n a.0, (leb-true n 6 b.0, leb-true p 4 d.0))
 
-pub invariant-of-result : goal.invariant-of-result
-invariant-of-result c =
+pub invariant_of-result : goal.invariant_of-result
+invariant_of-result c =
     let n = c.args.n in
     let p = c.args.p in
-    let kept = c.in-ok-kept.kept in
-    let e = c.in-ok-kept.ensures.answer in
+    let kept = c.in_ok-kept.kept in
+    let e = c.in_ok-kept.ensures.answer in
     let f = in-counts n p (as-bare n p (meaning_of kept) e).1 in
     parts _ (subst Shaped (sym (as_plain n p kept f.1.0 f.1.1 e)) (shaped-plain n p f.0 f.1.0 f.1.1))
 
@@ -41,8 +41,8 @@ pub returns : goal.returns
 returns c =
     let n = c.args.n in
     let p = c.args.p in
-    let kept = c.in-ok-kept.kept in
-    let e = c.in-ok-kept.ensures.answer in
+    let kept = c.in_ok-kept.kept in
+    let e = c.in_ok-kept.ensures.answer in
     let t = (as-bare n p (meaning_of kept) e).1 in
     let f = in-counts n p t in
     record { answer = ap Ok (as_plain n p kept f.1.0 f.1.1 e) ∙ sym (cond-true (counts_fit n p 0 0) (Ok (plain n p)) (Err Counts) t) }

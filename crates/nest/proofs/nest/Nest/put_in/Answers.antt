@@ -1,5 +1,5 @@
-use Rattle.std.proofs.Common.{◌≡◌, ◌+◌, ◌*◌, ◌<◌, ◌≤◌, [], length, get_or, drop, pos, ◌+ℤ◌, ◌*ℤ◌, nat_abs, sym, ap, ◌∙◌, subst, arith, w64, SFits, rules}
-use Rattle.std.proofs.lemmas.Int.{ints, to_z-of_z}
+use Rattle.std.proofs.Common.{◌≡◌, ◌+◌, ◌≤◌, [], get_or, drop, ◌+ℤ◌, ◌*ℤ◌, nat_abs, sym, ap, ◌∙◌, subst, arith, w64, SFits, rules}
+use Rattle.std.proofs.lemmas.Int.{to_z-of_z}
 use Rattle.base.specs.Numbers.{at}
 use Rattle.base.specs.Forms.{dot}
 use Rattle.base.proofs.Products.{mul-within}
@@ -11,8 +11,8 @@ use Rattle.nest.specs.Acts.{nest_of}
 use Rattle.nest.proofs.Rows.{at-column, length-column, sum_done, sum_more, sum-small}
 use Rattle.nest.proofs.nest.Nest.put_in.Goals as goal
 
-pub plus-product-sum-requires : goal.plus-product-sum-requires
-plus-product-sum-requires c =
+pub plus_product-sum-requires : goal.plus_product-sum-requires
+plus_product-sum-requires c =
     let s = c.args.self.now in
     let i = c.loop-i.i in
     let k = c.args.k in
@@ -23,7 +23,7 @@ plus-product-sum-requires c =
     let b : entry (nest_of s).bounds i k ≡ y = entry-inside (s.kept.p + 1) s.kept.n s.bounds i k (omega arith) (omega arith) in
     let hx : nat_abs x ≤ 300 = subst (λ z. nat_abs z ≤ 300) (sym c.number-in-loop-i.ensures.value) (s.cells_small c.args.cell i) in
     let hy : nat_abs y ≤ 300 = subst (λ z. nat_abs z ≤ 300) b (s.bounds_small i k) in
-    record { small-sum = omega (arith, c.loop-i.invariant.0); small-x = simp to_z-of_z (omega (arith, hx)); small-y = simp to_z-of_z (omega (arith, hy)) }
+    record { small_sum = omega (arith, c.loop-i.invariant.0); small_x = simp to_z-of_z (omega (arith, hx)); small_y = simp to_z-of_z (omega (arith, hy)) }
 
 pub loop-i-init : goal.loop-i-init
 loop-i-init c =
@@ -49,7 +49,7 @@ loop-i-preserved c =
     let fx : SFits w64 x = search rules in
     let fy : SFits w64 y = search rules in
     let b : at U i ≡ y = at-column (nest_of s).bounds k i ∙ entry-inside (s.kept.p + 1) s.kept.n s.bounds i k (omega arith) (omega arith) in
-    let v : c.plus-product-sum.result.value ≡ t +ℤ (x *ℤ y) = simp to_z-of_z at c.plus-product-sum.ensures in
+    let v : c.plus_product-sum.result.value ≡ t +ℤ (x *ℤ y) = simp to_z-of_z at c.plus_product-sum.ensures in
     let u : x *ℤ y ≡ at C i *ℤ at U i = rw (c.number-in-loop-i.ensures.value, b) in
     let hy : nat_abs (at U i) ≤ 300 = subst (λ z. nat_abs z ≤ 300) (sym (at-column (nest_of s).bounds k i)) (s.bounds_small i k) in
     let m = mul-within (at C i) (at U i) 300 300 (s.cells_small c.args.cell i) hy in
@@ -60,8 +60,8 @@ loop-i-preserved c =
     let D = dot (drop i C) (drop i U) in
     let D' = dot (drop (i + 1) C) (drop (i + 1) U) in
     let E = entry (nest_of s).cells c.args.cell (s.kept.n + k) +ℤ dot C U in (
-      sum-small t c.plus-product-sum.result.value (at C i *ℤ at U i) i 300 90000 w c.loop-i.invariant.0 m,
-      sum_more t c.plus-product-sum.result.value (at C i *ℤ at U i) D D' E w d c.loop-i.invariant.1,
+      sum-small t c.plus_product-sum.result.value (at C i *ℤ at U i) i 300 90000 w c.loop-i.invariant.0 m,
+      sum_more t c.plus_product-sum.result.value (at C i *ℤ at U i) D D' E w d c.loop-i.invariant.1,
     )
 
 pub returns : goal.returns

@@ -1,4 +1,4 @@
-use Rattle.std.proofs.Common.{◌≡◌, ◌+◌, ◌-◌, List, [], length, ℤ, sym, ap, ◌∙◌, subst, arith, w64, SFits, rules}
+use Rattle.std.proofs.Common.{◌+◌, ◌-◌, List, [], ℤ, sym, ap, ◌∙◌, arith, w64, SFits, rules}
 use Rattle.std.proofs.lemmas.List.{get_or_append_left, get_or-append_right}
 use Rattle.std.proofs.lemmas.Int.{to_z-of_z}
 use Rattle.base.specs.Numbers.{at}
@@ -20,12 +20,12 @@ returns-then-row-n c =
     let s = c.args.self.now in
     let L = nest_of s in
     let i = c.args.row in
-    let f : SFits w64 c.loop-number.result = search rules in
+    let f : SFits w64 c.loop_number.result = search rules in
     let l = length-loop_rows L.n 0 L.bounds in
     record {
       value =
-          to_z-of_z w64 c.loop-number.result f
-          ∙ c.loop-number.ensures.value
+          to_z-of_z w64 c.loop_number.result f
+          ∙ c.loop_number.ensures.value
           ∙ ap (λ (row : List ℤ). at row c.args.column) (sym (get_or_append_left (loop_rows L.n 0 L.bounds) (cell_rows L.n L.bounds L.cells) [] i (omega (arith, l, s.each_bounded))));
     }
 
@@ -34,12 +34,12 @@ returns-else-row-n c =
     let s = c.args.self.now in
     let L = nest_of s in
     let i = c.args.row in
-    let f : SFits w64 c.condition-number.result = search rules in
+    let f : SFits w64 c.condition_number.result = search rules in
     let l = length-loop_rows L.n 0 L.bounds in
     record {
       value =
-          to_z-of_z w64 c.condition-number.result f
-          ∙ c.condition-number.ensures.value
+          to_z-of_z w64 c.condition_number.result f
+          ∙ c.condition_number.ensures.value
           ∙ ap (λ m. entry (cell_rows L.n L.bounds L.cells) (i - m) c.args.column) c.unknowns-n.ensures.value
           ∙ ap (λ (row : List ℤ). at row c.args.column) (sym (get_or-append_right (loop_rows L.n 0 L.bounds) (cell_rows L.n L.bounds L.cells) L.n i [] (l ∙ s.each_bounded) (omega arith)));
     }
