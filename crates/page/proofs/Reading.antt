@@ -10,7 +10,7 @@ use Rattle.tree.specs.Limits.{AllFormsFit, TreeFits, WithinLimits}
 use Rattle.tree.specs.Finds.{head_fits}
 use Rattle.page.specs.declared.record.Flaw.TheVariants.{Number as FlawNumber}
 use Rattle.page.specs.Words.{Bytes, all_bytes, bytes, forms, forms_bytes, word, words}
-use Rattle.page.specs.Records.{Kind, Opened, body_length, flawed, one, opened, opened_as, page_of, record_of, head as head_kind, keep as keep_kind, split as split_kind, new as new_kind, leaf as leaf_kind, none as none_kind}
+use Rattle.page.specs.Records.{Kind, Opened, body_length, flawed, one, opened_as, page_of, record_of, head as head_kind, keep as keep_kind, split as split_kind, new as new_kind, leaf as leaf_kind, none as none_kind}
 use Rattle.page.specs.Fits.{form_fits, leaf_fits, new_fits}
 use Rattle.page.specs.Readings.{Out, Reader, Whole, below, done, ended, fault, head_at, keep, keep_at, keeps, keeps_from, node, opening, parse, reading, taking, then, unless, whole}
 use Rattle.page.specs.Pages.{Accepted, Fits, IsPage, Refused, WrittenAccepted, checked, checked_as, list_of}

@@ -9,7 +9,7 @@ use tree::node::Node;
 /// Whether the nodes would fit into the store, were it empty. The units left go down from the
 /// capacity, so that no sum can pass the largest number.
 fn fits<T: Store>(store: &T, nodes: &[Node]) -> Result<(), Refusal>
-    ensures answer { result ≡ install_answer (meaning store.now) nodes.now }
+    ensures answer { result ≡ install_answer (T.meaning store.now) nodes.now }
 {
     let mut left = store.capacity();
     for node in nodes {
@@ -24,8 +24,8 @@ fn fits<T: Store>(store: &T, nodes: &[Node]) -> Result<(), Refusal>
 
 /// Lists these nodes in place of what was there, and closes the store; 23 if they do not fit.
 fn replace<T: Store>(store: &mut T, nodes: &[Node]) -> Result<(), Refusal>
-    ensures answer { result ≡ install_answer (meaning store.old) nodes.now }
-    ensures left { meaning store.new ≡ installed (meaning store.old) nodes.now }
+    ensures answer { result ≡ install_answer (T.meaning store.old) nodes.now }
+    ensures left { T.meaning store.new ≡ installed (T.meaning store.old) nodes.now }
 {
     fits(store, nodes)?;
     let draft = store.begin();
@@ -41,8 +41,8 @@ fn replace<T: Store>(store: &mut T, nodes: &[Node]) -> Result<(), Refusal>
 /// Lists the first `count` nodes of the work table (all of them, if it has no more) in place of
 /// what was there, and closes the store; 23 if they do not fit, and then the store is untouched.
 pub fn install<T: Store>(store: &mut T, work: &[Node], count: usize) -> Result<(), Refusal>
-    ensures answer { result ≡ install_answer (meaning store.old) (take count work.now) }
-    ensures left { meaning store.new ≡ installed (meaning store.old) (take count work.now) }
+    ensures answer { result ≡ install_answer (T.meaning store.old) (take count work.now) }
+    ensures left { T.meaning store.new ≡ installed (T.meaning store.old) (take count work.now) }
 {
     if count < work.len() {
         replace(store, &work[0..count])

@@ -19,5 +19,5 @@ returns-in-Err-read c =
 
 pub returns-in-Ok-read : goal.returns-in-Ok-read
 returns-in-Ok-read c =
-    let e = arrived (length c.args.page.now) c.args.i c.loop.counter c.loop.rest.now _ _ c.node-of.result c.loop.invariant.0 (omega arith) c.in-Ok-read.ensures.reads c.in-Ok-read.ensures.shorter c.node-of.ensures.value c.loop.invariant.1 in
+    let e = arrived (length c.args.page.now) c.args.i c.loop.counter c.loop.rest.now _ _ c.node_of.result c.loop.invariant.0 (omega arith) c.in-Ok-read.ensures.reads c.in-Ok-read.ensures.shorter c.node_of.ensures.value c.loop.invariant.1 in
     record { value = e; law = λ w i. e ∙ ap (λ xs. get_or xs c.args.i Blank) (page-back c.args.page.now w i) }

@@ -10,10 +10,10 @@ returns-then-offset-page c = record { value = (FlawLength, (ap opened (drop_all 
 
 pub returns-in-Err : goal.returns-in-Err
 returns-in-Err c =
-    let e = ap opened (sym c.split-at.ensures.back) in
+    let e = ap opened (sym c.split_at.ensures.back) in
     record { value = (c.in-Err.flaw, (e ∙ reads-flaw _ c.in-Err.flaw c.in-Err.ensures.reads, c.refusal.ensures.value)) }
 
 pub returns-in-Ok : goal.returns-in-Ok
 returns-in-Ok c =
-    let e = ap opened (sym c.split-at.ensures.back) in
+    let e = ap opened (sym c.split_at.ensures.back) in
     record { value = (refl, (c.in-Ok.after.now, (e ∙ reads-one _ (c.in-Ok.found, c.in-Ok.after) c.in-Ok.ensures.reads, refl))) }

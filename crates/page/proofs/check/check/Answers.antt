@@ -10,7 +10,7 @@ returns-in-Ok c =
     let e = answer_ok bs c.in-Ok.count c.in-Ok.ensures.value in
     record {
       answer = e;
-      accepted = subst (Accepted bs) (sym e) (accepted bs (bytes_of bs c.type-inv.page));
+      accepted = subst (Accepted bs) (sym e) (accepted bs (bytes_of bs c.type_inv.page));
       written = subst (WrittenAccepted bs) (sym e) (written bs);
       refused = subst (Refused bs) (sym e) (refused bs);
     }
@@ -21,7 +21,7 @@ returns-in-Err c =
     let e = answer_err bs c.in-Err.fault c.refusal.result c.in-Err.ensures.value c.refusal.ensures.value in
     record {
       answer = e;
-      accepted = subst (Accepted bs) (sym e) (accepted bs (bytes_of bs c.type-inv.page));
+      accepted = subst (Accepted bs) (sym e) (accepted bs (bytes_of bs c.type_inv.page));
       written = subst (WrittenAccepted bs) (sym e) (written bs);
       refused = subst (Refused bs) (sym e) (refused bs);
     }

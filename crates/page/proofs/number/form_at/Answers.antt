@@ -6,11 +6,11 @@ use Rattle.page.proofs.number.form_at.Goals as goal
 
 pub loop-k-preserved : goal.loop-k-preserved
 loop-k-preserved c =
-    let f : SFits w32 c.word-at.result = search rules in (
+    let f : SFits w32 c.word_at.result = search rules in (
       length-set c.loop-k.form _ _ ∙ c.loop-k.invariant.0,
       below_more _ _
           (λ k h. let ne : k ≢ c.loop-k.k = omega arith in rw get_or-set_other (c.loop-k.invariant.1 k h))
-          (let lt : c.loop-k.k < length c.loop-k.form = omega arith in rw get_or-set_same (to_z-of_z {w = w32} f ∙ c.word-at.ensures.value)),
+          (let lt : c.loop-k.k < length c.loop-k.form = omega arith in rw get_or-set_same (to_z-of_z {w = w32} f ∙ c.word_at.ensures.value)),
     )
 
 pub returns : goal.returns

@@ -4,20 +4,20 @@ use Rattle.page.specs.Fits.{form_fits, number_fits}
 use Rattle.page.proofs.Testing.{fits-end, fits-off, fits_on}
 use Rattle.page.proofs.number.form_fits.Goals as goal
 
-pub returns-then-not-number-fits : goal.returns-then-not-number-fits
+pub returns-then-not-number_fits : goal.returns-then-not-number_fits
 unfolding form_fits
-returns-then-not-number-fits c =
+returns-then-not-number_fits c =
     let C = c.args.form.now in
     let k = c.loop-k.k in
     let f : SFits w32 (get_or C k (pos 0)) = search rules in
-    record { value = fits-off c.args.p c.args.made k C (omega arith) (c.if-not-number-fits.ensures.value ∙ ap (number_fits c.args.p c.args.made k) (to_z-of_z w32 (get_or C k (pos 0)) f)) c.loop-k.invariant }
+    record { value = fits-off c.args.p c.args.made k C (omega arith) (c.if-not-number_fits.ensures.value ∙ ap (number_fits c.args.p c.args.made k) (to_z-of_z w32 (get_or C k (pos 0)) f)) c.loop-k.invariant }
 
 pub loop-k-preserved : goal.loop-k-preserved
 loop-k-preserved c =
     let C = c.args.form.now in
     let k = c.loop-k.k in
     let f : SFits w32 (get_or C k (pos 0)) = search rules in
-    fits_on c.args.p c.args.made k C (omega arith) (c.if-not-number-fits.ensures.value ∙ ap (number_fits c.args.p c.args.made k) (to_z-of_z w32 (get_or C k (pos 0)) f)) c.loop-k.invariant
+    fits_on c.args.p c.args.made k C (omega arith) (c.if-not-number_fits.ensures.value ∙ ap (number_fits c.args.p c.args.made k) (to_z-of_z w32 (get_or C k (pos 0)) f)) c.loop-k.invariant
 
 pub returns : goal.returns
 unfolding form_fits

@@ -7,7 +7,7 @@ loop-k-preserved c = (
   length-set c.loop-k.forms _ _ ∙ c.loop-k.invariant.0,
   below_more _ _
       (λ k h. let ne : k ≢ c.loop-k.k = omega arith in rw get_or-set_other (c.loop-k.invariant.1 k h))
-      (let lt : c.loop-k.k < length c.loop-k.forms = omega arith in rw get_or-set_same c.form-at.ensures.value),
+      (let lt : c.loop-k.k < length c.loop-k.forms = omega arith in rw get_or-set_same c.form_at.ensures.value),
 )
 
 pub returns : goal.returns

@@ -17,7 +17,7 @@ loop-k-preserved c =
     let at = c.args.at in
     let x = get_or form k (pos 0) in
     let f : SFits w32 x = search rules in
-    number_more at form k c.args.page.now c.put-number.new.page (omega (arith, c.requires.room)) (omega arith) (c.put-number.ensures.left ∙ ap₂ (λ z l. pasted (at + 4 * k) (bytes z) l) (to_z-of_z w32 x f) c.loop-k.invariant)
+    number_more at form k c.args.page.now c.put_number.new.page (omega (arith, c.requires.room)) (omega arith) (c.put_number.ensures.left ∙ ap₂ (λ z l. pasted (at + 4 * k) (bytes z) l) (to_z-of_z w32 x f) c.loop-k.invariant)
 
 pub returns : goal.returns
 returns c =

@@ -13,7 +13,7 @@ loop-k-preserved c =
     let Cs = c.args.forms.now in
     let k = c.loop-k.k in
     let at = c.args.at in
-    form-more at Cs k c.args.page.now c.put-form.new.page (omega (arith, c.requires.room)) (omega arith) c.loop-k.invariant.1 c.put-form.ensures.long (c.put-form.ensures.left ∙ ap (pasted (at + 40 * k) (all_bytes (get_or Cs k []))) c.loop-k.invariant.0)
+    form-more at Cs k c.args.page.now c.put_form.new.page (omega (arith, c.requires.room)) (omega arith) c.loop-k.invariant.1 c.put_form.ensures.long (c.put_form.ensures.left ∙ ap (pasted (at + 40 * k) (all_bytes (get_or Cs k []))) c.loop-k.invariant.0)
 
 pub returns : goal.returns
 returns c =

@@ -11,5 +11,5 @@ returns c =
     let d = c.args.d in
     let bs = c.args.page.now in
     let y = to_z-of_z w32 d c.ranges.d in
-    let two = paste-two at (at + 1) (4 ∷ []) (bytes d) bs c.put-byte.new.page c.put-number.new.page (omega (arith, c.requires.room)) (omega arith) c.put-byte.ensures.left (c.put-number.ensures.left ∙ ap (λ z. pasted (at + 1) (bytes z) c.put-byte.new.page) y) in
-    record { left = paste-two at (at + 5) (4 ∷ bytes d) (all_bytes c.args.form.now) bs c.put-number.new.page c.put-form.new.page (omega (arith, c.requires.room)) (omega arith) two c.put-form.ensures.left }
+    let two = paste-two at (at + 1) (4 ∷ []) (bytes d) bs c.put_byte.new.page c.put_number.new.page (omega (arith, c.requires.room)) (omega arith) c.put_byte.ensures.left (c.put_number.ensures.left ∙ ap (λ z. pasted (at + 1) (bytes z) c.put_byte.new.page) y) in
+    record { left = paste-two at (at + 5) (4 ∷ bytes d) (all_bytes c.args.form.now) bs c.put_number.new.page c.put_form.new.page (omega (arith, c.requires.room)) (omega arith) two c.put_form.ensures.left }

@@ -15,8 +15,8 @@ pub loop-k-preserved : goal.loop-k-preserved
 loop-k-preserved c =
     let Cs = c.args.forms.now in
     let k = c.loop-k.k in
-    let w = ten-from _ c.write-form.ensures.ten in (
-      form-more c.args.at k Cs _ c.args.page.now c.loop-k.page _ (omega arith) (omega arith) c.loop-k.invariant.1 w c.loop-k.invariant.0 c.write-form.ensures.left,
+    let w = ten-from _ c.write_form.ensures.ten in (
+      form-more c.args.at k Cs _ c.args.page.now c.loop-k.page _ (omega arith) (omega arith) c.loop-k.invariant.1 w c.loop-k.invariant.0 c.write_form.ensures.left,
       ten-more Cs k _ (omega arith) c.loop-k.invariant.1 w,
     )
 

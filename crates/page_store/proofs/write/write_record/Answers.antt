@@ -34,9 +34,9 @@ returns-in-Keep c =
     let i = c.args.at in
     let y = Keep c.in-Keep.form in
     let h = room i _ y old c.in-Keep.is c.requires in
-    let w = c.write-form.ensures in
+    let w = c.write_form.ensures in
     let n = ten-from _ w.ten in
-    let t = told i _ y old c.write-form.new.page c.in-Keep.is (after-byte i 40 2 (all_bytes c.in-Keep.form) old _ (length-form _ n) (omega arith) w.left, n) in
+    let t = told i _ y old c.write_form.new.page c.in-Keep.is (after-byte i 40 2 (all_bytes c.in-Keep.form) old _ (length-form _ n) (omega arith) w.left, n) in
     record { left = t.0; numbers = holdable-to _ t.1 }
 
 pub returns-in-Split : goal.returns-in-Split
@@ -45,9 +45,9 @@ returns-in-Split c =
     let i = c.args.at in
     let y = Split c.in-Split.form in
     let h = room i _ y old c.in-Split.is c.requires in
-    let w = c.write-form-in-Split.ensures in
+    let w = c.write_form-in-Split.ensures in
     let n = ten-from _ w.ten in
-    let t = told i _ y old c.write-form-in-Split.new.page c.in-Split.is (after-byte i 40 3 (all_bytes c.in-Split.form) old _ (length-form _ n) (omega arith) w.left, n) in
+    let t = told i _ y old c.write_form-in-Split.new.page c.in-Split.is (after-byte i 40 3 (all_bytes c.in-Split.form) old _ (length-form _ n) (omega arith) w.left, n) in
     record { left = t.0; numbers = holdable-to _ t.1 }
 
 pub returns-in-New : goal.returns-in-New
@@ -58,11 +58,11 @@ returns-in-New c =
     let y = New d c.in-New.form in
     let h = room i _ y old c.in-New.is c.requires in
     let f : SFits w32 d = search rules in
-    let w = c.write-form-in-New.ensures in
+    let w = c.write_form-in-New.ensures in
     let n = ten-from _ w.ten in
-    let a = after-byte i 4 4 (bytes d) old c.write-number.new.page refl (omega arith) (c.write-number.ensures.left ∙ ap (λ z. over (i + 1) (bytes z) (set old i 4)) (to_z-of_z {w = w32} f)) in
-    let b = after-part i (i + 5) 40 (4 ∷ bytes d) (all_bytes c.in-New.form) old c.write-number.new.page c.write-form-in-New.new.page refl (length-form _ n) (omega arith) a w.left in
-    let t = told i _ y old c.write-form-in-New.new.page c.in-New.is (b, (f, n)) in
+    let a = after-byte i 4 4 (bytes d) old c.write_number.new.page refl (omega arith) (c.write_number.ensures.left ∙ ap (λ z. over (i + 1) (bytes z) (set old i 4)) (to_z-of_z {w = w32} f)) in
+    let b = after-part i (i + 5) 40 (4 ∷ bytes d) (all_bytes c.in-New.form) old c.write_number.new.page c.write_form-in-New.new.page refl (length-form _ n) (omega arith) a w.left in
+    let t = told i _ y old c.write_form-in-New.new.page c.in-New.is (b, (f, n)) in
     record { left = t.0; numbers = holdable-to _ t.1 }
 
 pub returns-in-Leaf : goal.returns-in-Leaf
@@ -71,10 +71,10 @@ returns-in-Leaf c =
     let i = c.args.at in
     let y = Leaf c.in-Leaf.forms in
     let h = room i _ y old c.in-Leaf.is c.requires in
-    let w = c.write-forms.ensures in
+    let w = c.write_forms.ensures in
     let n = all-ten-from _ w.ten in
     let l = length-six _ n in
-    let t = told i _ y old c.write-forms.new.page c.in-Leaf.is (after-byte i 240 5 (forms_bytes c.in-Leaf.forms) old _ (l ∙ ap (λ n. 40 * n) w.six) (omega arith) w.left, (w.six, n)) in
+    let t = told i _ y old c.write_forms.new.page c.in-Leaf.is (after-byte i 240 5 (forms_bytes c.in-Leaf.forms) old _ (l ∙ ap (λ n. 40 * n) w.six) (omega arith) w.left, (w.six, n)) in
     record { left = t.0; numbers = holdable-to _ t.1 }
 
 pub returns-in-None : goal.returns-in-None

@@ -9,7 +9,7 @@ returns-in-Err g c =
     let xs = c.args.nodes.now in
     let s = g.T.Store.meaning in
     let m = s c.begin-draft.new.self in
-    let all : install_answer m xs ≡ Ok tt = ap (λ v. install_answer v xs) c.begin-draft.ensures.left ∙ sym c.in-ok-fits.ensures.answer in
+    let all : install_answer m xs ≡ Ok tt = ap (λ v. install_answer v xs) c.begin-draft.ensures.left ∙ sym c.in_ok-fits.ensures.answer in
     let p = put_next m (s c.loop-node.store) xs c.loop-node.node-index _ c.loop-node-test.true (install-room m xs all) c.loop-node.invariant.1 in
     let q = sym c.in-Err.is ∙ c.put.ensures.answer ∙ p.0 in
     let z : ◌≡◌ {A = ℕ} 0 1 = cc in
@@ -20,7 +20,7 @@ loop-node-preserved g c =
     let xs = c.args.nodes.now in
     let s = g.T.Store.meaning in
     let m = s c.begin-draft.new.self in
-    let all : install_answer m xs ≡ Ok tt = ap (λ v. install_answer v xs) c.begin-draft.ensures.left ∙ sym c.in-ok-fits.ensures.answer in
+    let all : install_answer m xs ≡ Ok tt = ap (λ v. install_answer v xs) c.begin-draft.ensures.left ∙ sym c.in_ok-fits.ensures.answer in
     let p = put_next m (s c.loop-node.store) xs c.loop-node.node-index _ c.loop-node-test.true (install-room m xs all) c.loop-node.invariant.1 in
     (omega arith, c.put.ensures.left ∙ p.1)
 
@@ -29,7 +29,7 @@ returns g c =
     let xs = c.args.nodes.now in
     let s = g.T.Store.meaning in
     let m = s c.args.store.now in
-    let all : install_answer m xs ≡ Ok tt = sym c.in-ok-fits.ensures.answer in
+    let all : install_answer m xs ≡ Ok tt = sym c.in_ok-fits.ensures.answer in
     record {
       answer = c.finish.ensures.answer ∙ ap close_answer c.loop-node.invariant.1 ∙ sym all;
       left = c.finish.ensures.left ∙ ap after_finish c.loop-node.invariant.1

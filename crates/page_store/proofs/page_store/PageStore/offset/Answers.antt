@@ -13,8 +13,8 @@ index-requires c =
     let q = leads (vec_items s.page) s.used c.loop.counter c.loop.at xs (omega arith) s.whole (all_from xs s.numbers) (omega arith) c.loop.invariant in
     omega (arith, q.0)
 
-pub overflow-add-at : goal.overflow-add-at
-overflow-add-at c =
+pub overflow_add-at : goal.overflow_add-at
+overflow_add-at c =
     let s = c.args.self.now in
     let page = vec_items s.page in
     let xs = first_nodes s.count page in
@@ -22,7 +22,7 @@ overflow-add-at c =
     let q = leads page s.used c.loop.counter c.loop.at xs (omega arith) s.whole (all_from xs s.numbers) (omega arith) c.loop.invariant in
     let lt = q.0 in
     let b : c.index.result.now ≡ get_or page c.loop.at 0 = get_or_read_under page c.loop.at (vec_len s.page) _ 0 c.index.ensures (omega arith) s.page.ok.0 in
-    let e : c.length-of-at.result ≡ length_by (get_or page c.loop.at 0) = c.length-of-at.ensures.value ∙ ap length_by b in
+    let e : c.length_of-at.result ≡ length_by (get_or page c.loop.at 0) = c.length_of-at.ensures.value ∙ ap length_by b in
     record { fits = omega (arith, q.1.1) }
 
 pub loop-preserved : goal.loop-preserved
@@ -34,4 +34,4 @@ loop-preserved c =
     let q = leads page s.used c.loop.counter c.loop.at xs (omega arith) s.whole (all_from xs s.numbers) (omega arith) c.loop.invariant in
     let lt = q.0 in
     let b : c.index.result.now ≡ get_or page c.loop.at 0 = get_or_read_under page c.loop.at (vec_len s.page) _ 0 c.index.ensures (omega arith) s.page.ok.0 in
-    ap (λ n. c.loop.at + n) (c.length-of-at.ensures.value ∙ ap length_by b) ∙ q.1.0
+    ap (λ n. c.loop.at + n) (c.length_of-at.ensures.value ∙ ap length_by b) ∙ q.1.0

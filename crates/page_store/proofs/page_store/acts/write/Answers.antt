@@ -6,10 +6,10 @@ use Rattle.page_store.proofs.page_store.acts.write.Goals as goal
 
 pub returns : goal.returns
 returns c =
-    let after = c.write-record.new.page in
+    let after = c.write_record.new.page in
     let l : length after ≡ vec_len c.args.page.now = search rules in
     record {
-      left = take_at after (drop (length after) c.args.page.now.items) _ l ∙ c.write-record.ensures.left ∙ ap (over c.args.at (record_of c.args.node.now)) c.as-mut-slice.ensures.value;
+      left = take_at after (drop (length after) c.args.page.now.items) _ l ∙ c.write_record.ensures.left ∙ ap (over c.args.at (record_of c.args.node.now)) c.as_mut_slice.ensures.value;
       size = refl;
-      numbers = c.write-record.ensures.numbers;
+      numbers = c.write_record.ensures.numbers;
     }

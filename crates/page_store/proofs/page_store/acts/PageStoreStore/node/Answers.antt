@@ -7,15 +7,15 @@ use Rattle.page_store.proofs.Holding.{all_from, holdable-to}
 use Rattle.page_store.proofs.Standing.{holdable-at, offset-within, stands}
 use Rattle.page_store.proofs.page_store.acts.PageStoreStore.node.Goals as goal
 
-pub node-from-requires : goal.node-from-requires
-node-from-requires c =
+pub node_from-requires : goal.node_from-requires
+node_from-requires c =
     let s = c.args.self.now in
     let page = vec_items s.page in
     let xs = first_nodes s.count page in
     let e : length (page_of xs) ≡ s.used = ap length (sym s.whole) ∙ length-take-le s.used page (omega arith) in
     let w = offset-within c.args.place xs in
     let a = c.offset-at.ensures.answer in
-    let v = ap length c.as-slice.ensures.value in
+    let v = ap length c.as_slice.ensures.value in
     omega arith
 
 pub returns-then-place-self : goal.returns-then-place-self
@@ -27,8 +27,8 @@ returns-then-place-self c =
     let h : c.args.place < length xs = omega arith in
     let x = get_or xs c.args.place None in
     let a : c.offset-at.result ≡ length (page_of (take c.args.place xs)) = c.offset-at.ensures.answer in
-    let e = ap (drop c.offset-at.result) c.as-slice.ensures.value ∙ ap (λ k. drop k page) a ∙ stands page s.used c.args.place xs None s.whole h in
-    record { answer = c.node-from.ensures.value x _ (holdable-to x (holdable-at xs c.args.place None h (all_from xs s.numbers))) e }
+    let e = ap (drop c.offset-at.result) c.as_slice.ensures.value ∙ ap (λ k. drop k page) a ∙ stands page s.used c.args.place xs None s.whole h in
+    record { answer = c.node_from.ensures.value x _ (holdable-to x (holdable-at xs c.args.place None h (all_from xs s.numbers))) e }
 
 pub returns-else-place-self : goal.returns-else-place-self
 returns-else-place-self c =

@@ -16,30 +16,30 @@ pub returns-then-free-units : goal.returns-then-free-units
 returns-then-free-units c =
     let s = c.args.self.now in
     let xs = first_nodes s.count (vec_items s.page) in
-    let u : c.bytes-of-units.result ≡ byte_cost (kind_of c.args.node) = c.bytes-of-units.ensures.answer ∙ ap byte_cost c.kind.ensures.answer in
+    let u : c.bytes_of-units.result ≡ byte_cost (kind_of c.args.node) = c.bytes_of-units.ensures.answer ∙ ap byte_cost c.kind.ensures.answer in
     let l : used byte_cost xs ≡ s.used = sym (length-page xs (all_from xs s.numbers)) ∙ ap length (sym s.whole) ∙ length-take-le s.used (vec_items s.page) (omega arith) in
     let p = put_full (meaning_of s) c.args.node c.if-not-self.false (omega arith) in
     record { answer = sym p.0; left = sym p.1 }
 
-pub overflow-add-self : goal.overflow-add-self
-overflow-add-self c =
+pub overflow_add-self : goal.overflow_add-self
+overflow_add-self c =
     let s = c.args.self.now in
     let xs = first_nodes s.count (vec_items s.page) in
-    let u : c.bytes-of-units.result ≡ byte_cost (kind_of c.args.node) = c.bytes-of-units.ensures.answer ∙ ap byte_cost c.kind.ensures.answer in
+    let u : c.bytes_of-units.result ≡ byte_cost (kind_of c.args.node) = c.bytes_of-units.ensures.answer ∙ ap byte_cost c.kind.ensures.answer in
     let some = cost-some c.args.node in
     let n : length (page_of xs) ≡ s.used = ap length (sym s.whole) ∙ length-take-le s.used (vec_items s.page) (omega arith) in
     let m : length xs ≤ length (page_of xs) = count-page xs in
     let l : length xs ≡ s.count = s.all in
     record { fits = omega arith }
 
-pub invariant-of-self : goal.invariant-of-self
-invariant-of-self c =
+pub invariant_of-self : goal.invariant_of-self
+invariant_of-self c =
     let s = c.args.self.now in
     let x = c.args.node in
     let page = vec_items s.page in
     let after = vec_items c.write.new.page in
     let xs = first_nodes s.count page in
-    let u : c.bytes-of-units.result ≡ byte_cost (kind_of x) = c.bytes-of-units.ensures.answer ∙ ap byte_cost c.kind.ensures.answer in
+    let u : c.bytes_of-units.result ≡ byte_cost (kind_of x) = c.bytes_of-units.ensures.answer ∙ ap byte_cost c.kind.ensures.answer in
     let room : s.used + byte_cost (kind_of x) ≤ length page = omega arith in
     let hold = holdable-from x c.write.ensures.numbers in
     let all = all_from xs s.numbers in
@@ -48,13 +48,14 @@ invariant-of-self c =
     let size = c.write.ensures.size in
     let len : length (xs ++ (x ∷ [])) ≡ s.count + 1 = length-append xs (x ∷ []) ∙ ap (λ n. n + 1) s.all in
     let i : Indexed (vec_items c.note.new.index) (xs ++ (x ∷ [])) =
-    subst (λ l. Indexed l (xs ++ (x ∷ []))) (sym c.note.ensures.left) (put-index page (vec_items s.index) s.used s.count xs x s.all (omega arith) s.whole s.indexed) in (
-      omega arith,
-      (
-        ap (λ n. take (s.used + n) after) u ∙ w ∙ ap page_of (sym e),
-        (ap length e ∙ len, (ap all_holdable e ∙ all-to (xs ++ (x ∷ [])) (holdable-append xs x all hold), (subst (Indexed (vec_items c.note.new.index)) (sym e) i, tt))),
-      ),
-    )
+    subst (λ l. Indexed l (xs ++ (x ∷ []))) (sym c.note.ensures.left) (put-index page (vec_items s.index) s.used s.count xs x s.all (omega arith) s.whole s.indexed) in
+    record {
+      within = omega arith;
+      whole = ap (λ n. take (s.used + n) after) u ∙ w ∙ ap page_of (sym e);
+      all = ap length e ∙ len;
+      numbers = ap all_holdable e ∙ all-to (xs ++ (x ∷ [])) (holdable-append xs x all hold);
+      indexed = subst (Indexed (vec_items c.note.new.index)) (sym e) i;
+    }
 
 pub returns : goal.returns
 returns c =
@@ -62,7 +63,7 @@ returns c =
     let x = c.args.node in
     let page = vec_items s.page in
     let xs = first_nodes s.count page in
-    let u : c.bytes-of-units.result ≡ byte_cost (kind_of x) = c.bytes-of-units.ensures.answer ∙ ap byte_cost c.kind.ensures.answer in
+    let u : c.bytes_of-units.result ≡ byte_cost (kind_of x) = c.bytes_of-units.ensures.answer ∙ ap byte_cost c.kind.ensures.answer in
     let room : s.used + byte_cost (kind_of x) ≤ length page = omega arith in
     let all = all_from xs s.numbers in
     let l : used byte_cost xs ≡ s.used = sym (length-page xs all) ∙ ap length (sym s.whole) ∙ length-take-le s.used page (omega arith) in
