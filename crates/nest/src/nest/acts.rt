@@ -3,7 +3,7 @@ ghost use Rattle.std.specs.Prelude.{◌≡◌, ◌+◌, ◌<◌, [], length, ◌
 ghost use Rattle.base.specs.Numbers.{at};
 ghost use Rattle.base.specs.Forms.{dot};
 ghost use Rattle.source.specs.Systems.{entry};
-ghost use Rattle.algebra.specs.Lists.{column as columnOf};
+ghost use Rattle.algebra.specs.Lists.{column as column_of};
 ghost use Rattle.nest.specs.Tables.{cell_rows, in_unknowns, loop_rows, system_of};
 ghost use Rattle.nest.specs.Acts.{bounded, bound_answer, cell_answer, confine_answer, confined, meant_by, nest_of, new_answer, with_cell};
 
@@ -79,7 +79,7 @@ impl Nest {
     fn put_in(&self, cell: usize, k: usize) -> i64
         requires known { cell < length (nest_of self.now).cells }
         requires inside { k < (nest_of self.now).p + 1 }
-        ensures value { result ≡ entry (nest_of self.now).cells cell ((nest_of self.now).n + k) +ℤ dot (slice_index_or (nest_of self.now).cells cell []) (columnOf (nest_of self.now).bounds k) }
+        ensures value { result ≡ entry (nest_of self.now).cells cell ((nest_of self.now).n + k) +ℤ dot (slice_index_or (nest_of self.now).cells cell []) (column_of (nest_of self.now).bounds k) }
     {
         let n = self.kept.unknowns();
         let mut sum = Sum {
