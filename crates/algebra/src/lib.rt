@@ -4,8 +4,6 @@
 ghost use Rattle.algebra.specs.Laws.{AlgebraStands};
 
 /// The laws hold.
-pub fn algebra_stands() -> u8
+pub fn algebra_stands()
     ensures { AlgebraStands }
-{
-    0
-}
+{}

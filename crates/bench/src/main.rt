@@ -21,12 +21,12 @@ struct Tally {
 /// The steps that a refused run made.
 fn steps_of(refusal: &Refusal) -> u64 {
     match refusal {
-        Refusal::WorkFull(met) => u64::from(met.steps),
-        Refusal::FuelSpent(met) => u64::from(met.steps),
-        Refusal::Range(met) => u64::from(met.steps),
-        Refusal::Cuts(met) => u64::from(met.steps),
-        Refusal::NewParameters(met) => u64::from(met.steps),
-        Refusal::Depth(met) => u64::from(met.steps),
+        Refusal::WorkFull(met)
+        | Refusal::FuelSpent(met)
+        | Refusal::Range(met)
+        | Refusal::Cuts(met)
+        | Refusal::NewParameters(met)
+        | Refusal::Depth(met) => u64::from(met.steps),
         _ => 0,
     }
 }

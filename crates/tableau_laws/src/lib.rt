@@ -4,8 +4,7 @@
 ghost use Rattle.tableau_laws.specs.Laws.{TableLaws};
 
 /// The laws hold.
-pub fn table_laws_stand() -> u8
+pub fn table_laws_stand()
     ensures { TableLaws }
 {
-    0
 }
