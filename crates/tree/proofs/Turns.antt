@@ -10,23 +10,20 @@ use Rattle.tree.specs.declared.node.Node.{Node}
 use Rattle.tree.specs.declared.node.Node.TheVariants.{Head, Keep, Split, New, Leaf, None as Blank}
 use Rattle.tree.specs.declared.walk.Found.{Found}
 use Rattle.tree.specs.declared.walk.Found.TheVariants.{Point, None as NoPoint}
+use Rattle.std.specs.declared.ops.ControlFlow.TheVariants.{Break}
 use Rattle.tree.specs.declared.walk.Walk.{Walk}
-use Rattle.tree.specs.Finds.{ask_at, found_in, head_fits, kept_answer, left_of, said_of, setting_of, six_numbers, walk}
-use Rattle.tree.specs.Walks.{Six, Sixes, answer_of}
+use Rattle.tree.specs.Finds.{ask_at, found_in, head_fits, kept_answer, left_of, said_of, setting_of, walk}
+use Rattle.tree.specs.Parts.{Six, Sixes}
+use Rattle.tree.specs.Walks.{Steps, answer_of}
 
 -- ---- the walk
 
 pub went_on : (list : List Node) (i : ℕ) (d : Node) (w v : Walk) (a : Option (List ℤ)) → i < length list → ((rest : List Node) → answer_of w (get_or list i d ∷ rest) ≡ answer_of v rest) → answer_of w (drop i list) ≡ a → answer_of v (drop (i + 1) list) ≡ a
 went_on list i d w v a lt h e = sym (h (drop (i + 1) list)) ∙ sym (at_drop_more (answer_of w) list i d lt) ∙ e
 
-ended : (list : List Node) (i : ℕ) (d : Node) (w : Walk) (a b : Option (List ℤ)) → i < length list → ((rest : List Node) → answer_of w (get_or list i d ∷ rest) ≡ b) → answer_of w (drop i list) ≡ a → a ≡ b
-ended list i d w a b lt h e = sym e ∙ at_drop_more (answer_of w) list i d lt ∙ h (drop (i + 1) list)
-
-pub ended_some : (list : List Node) (i : ℕ) (d : Node) (w : Walk) (a : Option (List ℤ)) (values six : List ℤ) → i < length list → six ≡ six_numbers values → ((rest : List Node) → answer_of w (get_or list i d ∷ rest) ≡ Some values) → answer_of w (drop i list) ≡ a → Six a (Some six)
-ended_some list i d w a values six lt s h e = subst (λ o. Six o (Some six)) (sym (ended list i d w a (Some values) lt h e)) s
-
-pub ended-none : (list : List Node) (i : ℕ) (d : Node) (w : Walk) (a : Option (List ℤ)) → i < length list → ((rest : List Node) → answer_of w (get_or list i d ∷ rest) ≡ None) → answer_of w (drop i list) ≡ a → Six a None
-ended-none list i d w a lt h e = subst (λ o. Six o None) (sym (ended list i d w a None lt h e)) tt
+pub ended : (list : List Node) (i : ℕ) (d : Node) (w : Walk) (a : Option (List ℤ)) (end : Option (List ℤ)) → i < length list → Steps w (get_or list i d) (Break end) → answer_of w (drop i list) ≡ a → Six a end
+ended list i d w a (Some six) lt h e = subst (λ o. Six o (Some six)) (sym (at_drop_more (answer_of w) list i d lt ∙ h.1.1 (drop (i + 1) list)) ∙ e) h.1.0
+ended list i d w a None lt h e = subst (λ o. Six o None) (sym (at_drop_more (answer_of w) list i d lt ∙ h (drop (i + 1) list)) ∙ e) tt
 
 pub ran_out : (list : List Node) (i : ℕ) (w : Walk) (a : Option (List ℤ)) → length list ≤ i → answer_of w (drop i list) ≡ a → Six a None
 ran_out list i w a h e = subst (λ o. Six o None) (sym (at_drop_all (answer_of w) list i h) ∙ e) tt

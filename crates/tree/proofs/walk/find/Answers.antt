@@ -1,7 +1,7 @@
 use Rattle.std.proofs.Common.{Ok, Err, ap, ◌∙◌, subst}
 use Rattle.std.proofs.lemmas.Result.{err_from_is_err_and}
 use Rattle.tree.specs.Finds.{found_in}
-use Rattle.tree.specs.Walks.{Sixes}
+use Rattle.tree.specs.Parts.{Sixes}
 use Rattle.tree.proofs.Turns.{said-err, said-none, said-some}
 use Rattle.tree.proofs.Walking.{as-tree}
 use Rattle.tree.proofs.walk.find.Goals as goal

@@ -2,7 +2,7 @@ use Rattle.std.proofs.Common.{◌^◌, ◌≤◌, get_or, replicate, pos, nat_ab
 use Rattle.std.proofs.lemmas.Int.{ints, to_z-of_z}
 use Rattle.base.proofs.Fill.{filled-all, filled_more, filled_none}
 use Rattle.tree.proofs.Sizes.{within-set, zeros_within}
-use Rattle.tree.proofs.walk.wide.Goals as goal
+use Rattle.tree.proofs.known.wide.Goals as goal
 
 pub loop-k-init : goal.loop-k-init
 loop-k-init c = (filled_none (pos 0) c.args.form.now (replicate 10 (pos 0)) (sym c.told-form), zeros_within 10 (2 ^ 31))
