@@ -152,7 +152,7 @@ fn keeps_of(nodes: &[Node], known: &Known) -> Result<usize, Refusal>
 pub fn head_fits(n: u8, p: u8) -> bool
     ensures value { result ≡ head_fits n p }
 {
-    (1 <= n && n <= 6) && p <= 4
+    (1..=6).contains(&n) && p <= 4
 }
 
 /// Refuses what is no point of p parameters: 42 if it is not of p numbers, 43 if one is not from 0 to 1,000,000.
@@ -198,17 +198,11 @@ fn find_in(nodes: &[Node], point: &[i64]) -> Result<Option<[i64; 6]>, Refusal>
     ensures value { Sixes (found_in nodes.now point.now) result }
 {
     match nodes {
-        [] => Err(Refusal::NoTree),
-        [first, rest @ ..] => match first {
-            Node::Head { n, p } => {
-                if !head_fits(*n, *p) {
-                    return Err(Refusal::NoTree);
-                }
-                let known = known_at(point, *p)?;
-                find_below(rest, *n, &known)
-            }
-            _ => Err(Refusal::NoTree),
-        },
+        [Node::Head { n, p }, rest @ ..] if head_fits(*n, *p) => {
+            let known = known_at(point, *p)?;
+            find_below(rest, *n, &known)
+        }
+        _ => Err(Refusal::NoTree),
     }
 }
 
@@ -218,6 +212,7 @@ fn find_in(nodes: &[Node], point: &[i64]) -> Result<Option<[i64; 6]>, Refusal>
 /// parameters (41), a point not of p numbers (42), a number not from 0 to 1,000,000 (43), a point
 /// outside a keep (44). Refused, or where there is no point, the place holds zeros. A list that is not that of a tree
 /// answers too, by the same walk: where it cannot go on there is no point.
+#[tactic(auto, using(crate::proofs::Walking::as_tree))]
 pub fn find(nodes: &[Node], point: &[i64], place: &mut [i64; 6]) -> Result<Found, Refusal>
     ensures answer { result ≡ said_of (found_in nodes.now point.now) }
     ensures left { place.new ≡ left_of (found_in nodes.now point.now) }
