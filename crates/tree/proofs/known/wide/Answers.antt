@@ -1,11 +1,8 @@
 use Rattle.std.proofs.Common.{◌^◌, ◌≤◌, get_or, replicate, pos, nat_abs, sym, ◌∙◌, subst, arith, w32, w64, SFits, rules}
 use Rattle.std.proofs.lemmas.Int.{ints, to_z-of_z}
-use Rattle.base.proofs.Fill.{filled-all, filled_more, filled_none}
-use Rattle.tree.proofs.Sizes.{within-set, zeros_within}
+use Rattle.base.proofs.Fill.{filled-all, filled_more}
+use Rattle.tree.proofs.Sizes.{within-set}
 use Rattle.tree.proofs.known.wide.Goals as goal
-
-pub loop-k-init : goal.loop-k-init
-loop-k-init c = (filled_none (pos 0) c.args.form.now (replicate 10 (pos 0)) (sym c.told-form), zeros_within 10 (2 ^ 31))
 
 pub loop-k-preserved : goal.loop-k-preserved
 loop-k-preserved c =
