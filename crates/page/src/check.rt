@@ -8,6 +8,7 @@ ghost use Rattle.page.specs.Ties.{Agrees, Allowed, Inside, HeadReads, Heads, Lon
 use crate::number::{form_at, form_fits, forms_of, leaf_fits, new_fits, word_at};
 use crate::record::{Flaw, Record, read};
 use base::refusal::Refusal;
+use tree::kind::Kind;
 use tree::walk::head_fits;
 
 /// A refused record: why, and the page from its kind byte on.
@@ -21,12 +22,11 @@ pub struct Fault<'a> {
 fn objection(kind: u8, made: u8, left: u8) -> Option<Flaw>
     ensures value { result ≡ objection made left (kind_of kind) }
 {
-    match kind {
-        3 => { if left == 0 { Some(Flaw::Depth) } else { None } }
-        4 => { if made < 5 { None } else { Some(Flaw::Depth) } }
-        5 => None,
-        6 => None,
-        _ => Some(Flaw::Kind),
+    match Kind::try_from(kind) {
+        Ok(Kind::Split) => { if left == 0 { Some(Flaw::Depth) } else { None } }
+        Ok(Kind::New) => { if made < 5 { None } else { Some(Flaw::Depth) } }
+        Ok(Kind::Leaf | Kind::None) => None,
+        Ok(Kind::Head | Kind::Keep) | Err(_) => Some(Flaw::Kind),
     }
 }
 
@@ -114,7 +114,7 @@ fn is_keep(rest: &[u8]) -> bool
 {
     match rest {
         [] => false,
-        [kind, ..] => *kind == 2,
+        [kind, ..] => Kind::try_from(*kind) == Ok(Kind::Keep),
     }
 }
 
@@ -168,7 +168,7 @@ fn head<'a>(page: &'a [u8]) -> Result<Top<'a>, Fault<'a>>
             at: page,
         }),
         [kind, ..] => {
-            if *kind != 1 {
+            if Kind::try_from(*kind) != Ok(Kind::Head) {
                 return Err(Fault {
                     flaw: Flaw::Kind,
                     at: page,

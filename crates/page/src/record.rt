@@ -3,6 +3,8 @@ ghost use Rattle.std.specs.Prelude.{◌≡◌, ◌+◌, ◌<◌, ◌≤◌, leng
 ghost use Rattle.page.specs.Records.{opened};
 ghost use Rattle.page.specs.Ties.{Long, Reads};
 
+use tree::kind::{Kind, UnknownKind};
+
 /// Why a record is refused.
 #[derive(Clone, Copy, PartialEq, Eq, Debug)]
 pub enum Flaw {
@@ -14,6 +16,16 @@ pub enum Flaw {
     Number,
     /// A split too deep, or one new parameter too many.
     Depth,
+}
+
+impl From<UnknownKind> for Flaw {
+    ghost use Rattle.page.specs.declared.record.Flaw.TheVariants.{Kind as FlawOfKind};
+
+    ghost from_gives = { λ _ flaw. flaw ≡ FlawOfKind };
+
+    fn from(_: UnknownKind) -> Self {
+        Flaw::Kind
+    }
 }
 
 /// A record: its body is a part of the page that it was read from.
@@ -46,29 +58,28 @@ pub fn read<'a>(rest: &'a [u8]) -> Result<(Record<'a>, &'a [u8]), Flaw>
 {
     match rest {
         [] => Err(Flaw::Length),
-        [kind, bytes @ ..] => match *kind {
-            1 => {
+        [kind, bytes @ ..] => match Kind::try_from(*kind)? {
+            Kind::Head => {
                 let (body, after) = part(bytes, 2)?;
                 Ok((Record::Head(body), after))
             }
-            2 => {
+            Kind::Keep => {
                 let (body, after) = part(bytes, 40)?;
                 Ok((Record::Keep(body), after))
             }
-            3 => {
+            Kind::Split => {
                 let (body, after) = part(bytes, 40)?;
                 Ok((Record::Split(body), after))
             }
-            4 => {
+            Kind::New => {
                 let (body, after) = part(bytes, 44)?;
                 Ok((Record::New(body), after))
             }
-            5 => {
+            Kind::Leaf => {
                 let (body, after) = part(bytes, 240)?;
                 Ok((Record::Leaf(body), after))
             }
-            6 => Ok((Record::None, bytes)),
-            _ => Err(Flaw::Kind),
+            Kind::None => Ok((Record::None, bytes)),
         },
     }
 }
