@@ -4,5 +4,6 @@ pub mod Fitting
 pub mod Reading
 mod Testing
 mod Checking
+mod Chunks
 pub mod Pasting
 pub mod Regained

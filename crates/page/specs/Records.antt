@@ -5,22 +5,11 @@ use Rattle.tree.specs.declared.node.Node.TheVariants.{Head, Keep, Split, New, Le
 use Rattle.page.specs.declared.record.Flaw.{Flaw}
 use Rattle.page.specs.declared.record.Flaw.TheVariants.{Length as FlawLength, Kind as FlawKind}
 use Rattle.page.specs.Words.{all_bytes, bytes, forms, forms_bytes, word, words}
+pub use Rattle.tree.specs.declared.kind.Kind.{Kind}
+pub use Rattle.tree.specs.declared.kind.Kind.TheVariants.{Head as head, Keep as keep, Split as split, New as new, Leaf as leaf, None as none}
+pub use Rattle.tree.specs.Kinds.{kind_of_byte as kind_of}
 
-pub data Kind : Type 0 where
-  head keep split new leaf none : Kind
-
--- the kind that a byte stands for
-abbrev pub kind_of : ℕ → Option Kind
-kind_of zero = None
-kind_of (suc zero) = Some head
-kind_of (suc (suc zero)) = Some keep
-kind_of (suc (suc (suc zero))) = Some split
-kind_of (suc (suc (suc (suc zero)))) = Some new
-kind_of (suc (suc (suc (suc (suc zero))))) = Some leaf
-kind_of (suc (suc (suc (suc (suc (suc zero)))))) = Some none
-kind_of (suc (suc (suc (suc (suc (suc (suc k))))))) = None
-
--- and how many bytes its body has
+-- how many bytes the body of a kind has
 abbrev pub body_length : Kind → ℕ
 body_length head = 2
 body_length keep = 40

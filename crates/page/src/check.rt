@@ -3,11 +3,12 @@ ghost use Rattle.std.specs.Prelude.{◌≡◌, ◌+◌, ◌-◌, ◌<◌, ◌≤
 ghost use Rattle.page.specs.Pages.{Accepted, Refused, WrittenAccepted, checked, refusal_of};
 ghost use Rattle.page.specs.Readings.{head_at, keeps, objection, opening, parse};
 ghost use Rattle.page.specs.Records.{kind_of};
-ghost use Rattle.page.specs.Ties.{Agrees, Allowed, Inside, HeadReads, Heads, Long, Reads, WholeReads, body_in, keep_count, keep_first, kind_in, node_count, record_fits};
+ghost use Rattle.page.specs.Ties.{Agrees, Allowed, Inside, HeadReads, Heads, Reads, WholeReads, body_in, keep_count, keep_first, kind_in, node_count, record_fits};
 
-use crate::number::{form_at, form_fits, forms_of, leaf_fits, new_fits, word_at};
+use crate::number::{form_fits, form_of, forms_of, leaf_fits, new_fits, new_of};
 use crate::record::{Flaw, Record, read};
 use base::refusal::Refusal;
+use tree::kind::Kind;
 use tree::walk::head_fits;
 
 /// A refused record: why, and the page from its kind byte on.
@@ -21,12 +22,11 @@ pub struct Fault<'a> {
 fn objection(kind: u8, made: u8, left: u8) -> Option<Flaw>
     ensures value { result ≡ objection made left (kind_of kind) }
 {
-    match kind {
-        3 => { if left == 0 { Some(Flaw::Depth) } else { None } }
-        4 => { if made < 5 { None } else { Some(Flaw::Depth) } }
-        5 => None,
-        6 => None,
-        _ => Some(Flaw::Kind),
+    match Kind::try_from(kind) {
+        Ok(Kind::Split) => { if left == 0 { Some(Flaw::Depth) } else { None } }
+        Ok(Kind::New) => { if made < 5 { None } else { Some(Flaw::Depth) } }
+        Ok(Kind::Leaf | Kind::None) => None,
+        Ok(Kind::Head | Kind::Keep) | Err(_) => Some(Flaw::Kind),
     }
 }
 
@@ -34,7 +34,6 @@ fn objection(kind: u8, made: u8, left: u8) -> Option<Flaw>
 fn open<'a>(rest: &'a [u8], made: u8, left: u8) -> Result<(Record<'a>, &'a [u8]), Flaw>
     ensures reads { Reads (opening made left rest.now) result }
     ensures allowed { IfOk result (λ q. Allowed made left (kind_in q.0)) }
-    ensures body { IfOk result (λ q. Long q.0) }
     ensures shorter { IfOk result (λ q. length q.1.now + 1 ≤ length rest.now) }
 {
     match rest {
@@ -48,12 +47,14 @@ fn open<'a>(rest: &'a [u8], made: u8, left: u8) -> Result<(Record<'a>, &'a [u8])
 
 /// Whether the numbers of a record are within the limits.
 fn numbers_fit(of: Record, n: u8, p: u8, made: u8) -> bool
-    requires body { Long of }
     ensures value { result ≡ record_fits n p made (kind_in of.entry) (body_in of.entry) }
 {
     match of {
-        Record::Split(body) => form_fits(&form_at(body, 0), p, made),
-        Record::New(body) => new_fits(word_at(body, 0), &form_at(body, 4), p, made),
+        Record::Split(body) => form_fits(&form_of(body), p, made),
+        Record::New(body) => {
+            let (d, form) = new_of(body);
+            new_fits(d, &form, p, made)
+        }
         Record::Leaf(body) => leaf_fits(&forms_of(body), n, p, made),
         Record::Head(_) => true,
         Record::Keep(_) => true,
@@ -114,7 +115,7 @@ fn is_keep(rest: &[u8]) -> bool
 {
     match rest {
         [] => false,
-        [kind, ..] => *kind == 2,
+        [kind, ..] => Kind::try_from(*kind) == Ok(Kind::Keep),
     }
 }
 
@@ -133,7 +134,7 @@ fn keeps<'a>(rest: &'a [u8], p: u8, more: u8) -> Result<(&'a [u8], usize), Fault
         Err(flaw) => Err(Fault { flaw, at: rest }),
         Ok((first, after)) => match first {
             Record::Keep(body) => {
-                if !form_fits(&form_at(body, 0), p, 0) {
+                if !form_fits(&form_of(body), p, 0) {
                     return Err(Fault {
                         flaw: Flaw::Number,
                         at: rest,
@@ -168,7 +169,7 @@ fn head<'a>(page: &'a [u8]) -> Result<Top<'a>, Fault<'a>>
             at: page,
         }),
         [kind, ..] => {
-            if *kind != 1 {
+            if Kind::try_from(*kind) != Ok(Kind::Head) {
                 return Err(Fault {
                     flaw: Flaw::Kind,
                     at: page,
@@ -184,7 +185,6 @@ fn head<'a>(page: &'a [u8]) -> Result<Top<'a>, Fault<'a>>
 
 /// What the first record of a page says, if it is a head within the limits.
 fn head_of<'a>(page: &'a [u8], first: Record<'a>, rest: &'a [u8]) -> Result<Top<'a>, Fault<'a>>
-    requires body { Long first }
     ensures value { Heads page.now (head_at page.now (kind_in first.entry) (body_in first.entry) rest.now) rest.now result }
 {
     match first {
