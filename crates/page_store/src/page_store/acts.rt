@@ -1,6 +1,6 @@
 //! What a page store does.
 ghost use Rattle.std.specs.Prelude.{◌≡◌, ◌+◌, ◌<◌, ◌≤◌, true, take, vec_len, slice_set};
-ghost use Rattle.store.specs.Stores.{fresh, used, close_answer, after_finish};
+ghost use Rattle.store.specs.Stores.{fresh, used};
 ghost use Rattle.page.specs.Records.{page_of, record_of};
 ghost use Rattle.page_store.specs.Costs.{byte_cost};
 ghost use Rattle.page_store.specs.PageStores.{meaning_of, offset_of};
@@ -11,6 +11,7 @@ use super::{PageDraft, PageStore};
 use crate::read::{length_of, node_from};
 use crate::write::write_record;
 use base::refusal::Refusal;
+use store::gate::Gate;
 use store::store::Store;
 use tree::kind::Kind;
 use tree::node::Node;
@@ -46,21 +47,8 @@ impl PageStore {
             index,
             count: 0,
             used: 0,
-            open: false,
+            gate: Gate::new(),
         }
-    }
-
-    /// Takes a draft back and closes the store.
-    fn close(&mut self, draft: PageDraft) -> Result<(), Refusal>
-        ensures answer { result ≡ close_answer (meaning_of self.old) }
-        ensures left { meaning_of self.new ≡ after_finish (meaning_of self.old) }
-    {
-        let PageDraft { mark: () } = draft;
-        if !self.open {
-            return Err(Refusal::StoreClosed);
-        }
-        self.open = false;
-        Ok(())
     }
 
     /// The offset of a record that the index has, at this place or the nearest before it.
@@ -146,14 +134,11 @@ impl Store for PageStore {
     fn begin(&mut self) -> PageDraft {
         self.count = 0;
         self.used = 0;
-        self.open = true;
-        PageDraft { mark: () }
+        self.gate.open()
     }
 
-    fn put(&mut self, _draft: &PageDraft, node: Node) -> Result<(), Refusal> {
-        if !self.open {
-            return Err(Refusal::StoreClosed);
-        }
+    fn put(&mut self, draft: &PageDraft, node: Node) -> Result<(), Refusal> {
+        self.gate.pass(draft)?;
         let units = bytes_of(node.kind());
         let used = self.used;
         let free = self.page.len() - used;
@@ -169,11 +154,11 @@ impl Store for PageStore {
     }
 
     fn finish(&mut self, draft: PageDraft) -> Result<(), Refusal> {
-        self.close(draft)
+        self.gate.close(draft)
     }
 
     fn scrap(&mut self, draft: PageDraft) -> Result<(), Refusal> {
-        self.close(draft)?;
+        self.finish(draft)?;
         self.count = 0;
         self.used = 0;
         Ok(())
@@ -201,6 +186,6 @@ impl Store for PageStore {
     }
 
     fn is_open(&self) -> bool {
-        self.open
+        self.gate.is_open()
     }
 }
