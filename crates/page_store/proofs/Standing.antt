@@ -6,7 +6,7 @@ use Rattle.tree.specs.declared.node.Node.{Node}
 use Rattle.tree.specs.declared.node.Node.TheVariants.{Head, Keep, Split, New, Leaf, None}
 use Rattle.tree.specs.Kinds.{kind_of}
 use Rattle.store.specs.Stores.{used}
-use Rattle.page.specs.Records.{Kind, body_length, head, keep, leaf, new, node_of, none, one, opened, opened_as, page_of, record_of, split}
+use Rattle.page.specs.Records.{Kind, body_length, head, keep, leaf, new, node_of, none, one, opened, opened_as, page_of, pasted, record_of, split}
 use Rattle.page.specs.declared.record.Flaw.{Flaw}
 use Rattle.page.specs.declared.record.Record.{Record}
 use Rattle.page.specs.Ties.{Reads, body_in, kind_in}
@@ -14,9 +14,9 @@ use Rattle.page.specs.Words.{all_bytes, bytes, forms, forms_bytes, words}
 use Rattle.page.proofs.Words.{form-of, forms-of, length-form, length-six, word_bytes}
 use Rattle.page_store.specs.Costs.{byte_cost}
 use Rattle.page_store.specs.Listed.{Indexed, and_those, first_nodes, length_by}
-use Rattle.page_store.specs.Writes.{over}
-use Rattle.page_store.proofs.Holding.{AllHoldable, Holdable}
-use Rattle.page_store.proofs.Over.{take-over}
+use Rattle.page.proofs.Holding.{Holdable}
+use Rattle.page_store.proofs.Holding.{AllHoldable}
+use Rattle.page.proofs.Pasting.{take-pasted}
 
 body-opens : (k : Kind) (b rest : List ℕ) → length b ≡ body_length k → opened_as (Some k) (b ++ rest) ≡ one k b rest
 body-opens k b rest l =
@@ -140,15 +140,15 @@ holdable-at (x ∷ xs) (suc j) d h all = holdable-at xs j d (omega arith) all.1
 
 -- ---- one record more
 
-pub put_whole : (page after : List ℕ) (n : ℕ) (xs : List Node) (x : Node) → Holdable x → n + byte_cost (kind_of x) ≤ length page → take n page ≡ page_of xs → after ≡ over n (record_of x) page →
+pub put_whole : (page after : List ℕ) (n : ℕ) (xs : List Node) (x : Node) → Holdable x → n + byte_cost (kind_of x) ≤ length page → take n page ≡ page_of xs → after ≡ pasted n (record_of x) page →
     take (n + byte_cost (kind_of x)) after ≡ page_of (xs ++ (x ∷ []))
 put_whole page after n xs x h room whole wrote =
     let l = length-record x h in
-    ap₂ (λ k p. take (n + k) p) (sym l) wrote ∙ take-over n (record_of x) page (omega (arith, l)) ∙ ap (λ l. l ++ record_of x) whole
+    ap₂ (λ k p. take (n + k) p) (sym l) wrote ∙ take-pasted n (record_of x) page (omega arith) ∙ ap (λ l. l ++ record_of x) whole
     ∙ ap (λ l. page_of xs ++ l) (sym (append-nil (record_of x))) ∙ sym (page-append xs (x ∷ []))
 
 pub put-nodes : (page after : List ℕ) (n count : ℕ) (xs : List Node) (x : Node) → AllHoldable xs → Holdable x → length xs ≡ count → n + byte_cost (kind_of x) ≤ length page → take n page ≡ page_of xs →
-    after ≡ over n (record_of x) page → first_nodes (count + 1) after ≡ xs ++ (x ∷ [])
+    after ≡ pasted n (record_of x) page → first_nodes (count + 1) after ≡ xs ++ (x ∷ [])
 put-nodes page after n count xs x all h len room whole wrote =
     let ys = xs ++ (x ∷ []) in
     let m = n + byte_cost (kind_of x) in

@@ -3,7 +3,8 @@ use Rattle.std.proofs.lemmas.List.{get_or_past, length-take-le}
 use Rattle.tree.specs.declared.node.Node.TheVariants.{None}
 use Rattle.page.specs.Records.{page_of}
 use Rattle.page_store.specs.Listed.{first_nodes}
-use Rattle.page_store.proofs.Holding.{all_from, holdable-to}
+use Rattle.page.proofs.Holding.{holdable-to}
+use Rattle.page_store.proofs.Holding.{all_from}
 use Rattle.page_store.proofs.Standing.{holdable-at, offset-within, stands}
 use Rattle.page_store.proofs.page_store.acts.PageStoreStore.node.Goals as goal
 

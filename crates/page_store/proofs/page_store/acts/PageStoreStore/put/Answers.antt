@@ -8,7 +8,8 @@ use Rattle.page_store.specs.Costs.{byte_cost}
 use Rattle.page_store.specs.Listed.{Indexed, first_nodes}
 use Rattle.page_store.specs.PageStores.{meaning_of}
 use Rattle.page_store.specs.Writes.{all_holdable}
-use Rattle.page_store.proofs.Holding.{all_from, all-to, holdable-from}
+use Rattle.page.proofs.Holding.{holdable-from}
+use Rattle.page_store.proofs.Holding.{all_from, all-to}
 use Rattle.page_store.proofs.Standing.{cost-some, count-page, holdable-append, length-page, put-index, put-nodes, put_whole}
 use Rattle.page_store.proofs.page_store.acts.PageStoreStore.put.Goals as goal
 
@@ -17,7 +18,7 @@ returns-then-free-units c =
     let s = c.args.self.now in
     let is_open : s.gate.is_open ≡ true = passed-open _ (sym c.in_ok-pass.ensures.answer) in
     let xs = first_nodes s.count (vec_items s.page) in
-    let u : c.bytes_of-units.result ≡ byte_cost (kind_of c.args.node) = c.bytes_of-units.ensures.answer ∙ ap byte_cost c.kind.ensures.answer in
+    let u : c.record_length-units.result ≡ byte_cost (kind_of c.args.node) = c.record_length-units.ensures.value ∙ ap byte_cost c.kind.ensures.answer in
     let l : used byte_cost xs ≡ s.used = sym (length-page xs (all_from xs s.numbers)) ∙ ap length (sym s.whole) ∙ length-take-le s.used (vec_items s.page) (omega arith) in
     let p = put_full (meaning_of s) c.args.node is_open (omega arith) in
     record { answer = sym p.0; left = sym p.1 }
@@ -26,7 +27,7 @@ pub overflow_add-self : goal.overflow_add-self
 overflow_add-self c =
     let s = c.args.self.now in
     let xs = first_nodes s.count (vec_items s.page) in
-    let u : c.bytes_of-units.result ≡ byte_cost (kind_of c.args.node) = c.bytes_of-units.ensures.answer ∙ ap byte_cost c.kind.ensures.answer in
+    let u : c.record_length-units.result ≡ byte_cost (kind_of c.args.node) = c.record_length-units.ensures.value ∙ ap byte_cost c.kind.ensures.answer in
     let some = cost-some c.args.node in
     let n : length (page_of xs) ≡ s.used = ap length (sym s.whole) ∙ length-take-le s.used (vec_items s.page) (omega arith) in
     let m : length xs ≤ length (page_of xs) = count-page xs in
@@ -40,7 +41,7 @@ invariant_of-self c =
     let page = vec_items s.page in
     let after = vec_items c.write.new.page in
     let xs = first_nodes s.count page in
-    let u : c.bytes_of-units.result ≡ byte_cost (kind_of x) = c.bytes_of-units.ensures.answer ∙ ap byte_cost c.kind.ensures.answer in
+    let u : c.record_length-units.result ≡ byte_cost (kind_of x) = c.record_length-units.ensures.value ∙ ap byte_cost c.kind.ensures.answer in
     let room : s.used + byte_cost (kind_of x) ≤ length page = omega arith in
     let hold = holdable-from x c.write.ensures.numbers in
     let all = all_from xs s.numbers in
@@ -65,7 +66,7 @@ returns c =
     let x = c.args.node in
     let page = vec_items s.page in
     let xs = first_nodes s.count page in
-    let u : c.bytes_of-units.result ≡ byte_cost (kind_of x) = c.bytes_of-units.ensures.answer ∙ ap byte_cost c.kind.ensures.answer in
+    let u : c.record_length-units.result ≡ byte_cost (kind_of x) = c.record_length-units.ensures.value ∙ ap byte_cost c.kind.ensures.answer in
     let room : s.used + byte_cost (kind_of x) ≤ length page = omega arith in
     let all = all_from xs s.numbers in
     let l : used byte_cost xs ≡ s.used = sym (length-page xs all) ∙ ap length (sym s.whole) ∙ length-take-le s.used page (omega arith) in
