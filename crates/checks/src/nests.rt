@@ -15,8 +15,8 @@ fn pairs() -> Result<Nest, Refusal> {
 }
 
 fn check_row(rt: &impl Abort, nest: &Nest, row: usize, want: &[i64; 6]) {
-    for column in 0..6 {
-        assert_eq!(rt; nest.number(row, column), want[column]);
+    for (column, number) in want.iter().enumerate() {
+        assert_eq!(rt; nest.number(row, column), *number);
     }
     assert_eq!(rt; nest.number(row, 6), 0);
 }

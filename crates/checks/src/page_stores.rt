@@ -14,8 +14,8 @@ fn the_worked_tree_fits_571_bytes(rt: HostRuntime) -> Result<(), Fail> {
     let mut store = PageStore::new(page, index);
     assert_eq!(rt; install(&mut store, &WORKED, 5), Ok(()));
     assert_eq!(rt; store.count(), 5);
-    for place in 0..5 {
-        assert_eq!(rt; store.node(place), WORKED[place]);
+    for (place, node) in WORKED.iter().enumerate() {
+        assert_eq!(rt; store.node(place), *node);
     }
     assert_eq!(rt; store.node(5), Node::None);
     let page = store.into_page();

@@ -15,25 +15,20 @@ fn leaf(first: NodeForm) -> Node {
     Node::Leaf([first, zero, zero, zero, zero, zero])
 }
 
-/// What the list says at k, and the first and last number of the place.
-fn ask(nodes: &[Node], k: i64) -> (Result<Found, Refusal>, i64, i64) {
+/// Asks the list at k, and compares what it says, and the first and last number of the place.
+fn asks(rt: &impl Abort, nodes: &[Node], k: i64, want: Result<Found, Refusal>, first: i64) {
     let mut place = [7; 6];
-    let said = find(nodes, &[k], &mut place);
-    (said, place[0], place[5])
+    assert_eq!(rt; find(nodes, &[k], &mut place), want);
+    assert_eq!(rt; place[0], first);
+    assert_eq!(rt; place[5], 0);
 }
 
 fn answers(rt: &impl Abort, nodes: &[Node], k: i64, first: i64) {
-    let (said, got, last) = ask(nodes, k);
-    assert_eq!(rt; said, Ok(Found::Point));
-    assert_eq!(rt; got, first);
-    assert_eq!(rt; last, 0);
+    asks(rt, nodes, k, Ok(Found::Point), first);
 }
 
 fn says(rt: &impl Abort, nodes: &[Node], k: i64, want: Result<Found, Refusal>) {
-    let (said, got, last) = ask(nodes, k);
-    assert_eq!(rt; said, want);
-    assert_eq!(rt; got, 0);
-    assert_eq!(rt; last, 0);
+    asks(rt, nodes, k, want, 0);
 }
 
 #[test]

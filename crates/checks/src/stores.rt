@@ -7,20 +7,27 @@ use store::node_store::NodeStore;
 use store::store::Store;
 use tree::node::Node;
 
+/// A store of four places.
+fn four_places(rt: &HostRuntime) -> Result<NodeStore, Fail> {
+    Ok(NodeStore::new(Vec::from_slice(
+        rt.alloc(),
+        &[Node::None; 4],
+    )?))
+}
+
 /// Puts each node, and says by what the last one was refused or accepted.
 fn put_all<T: Store>(store: &mut T, nodes: &[Node]) -> Result<(), Refusal> {
     let draft = store.begin();
-    let mut last = Ok(());
-    for node in nodes {
-        last = store.put(&draft, *node);
-    }
+    let last = nodes
+        .iter()
+        .fold(Ok(()), |_, node| store.put(&draft, *node));
     store.finish(draft)?;
     last
 }
 
 #[test]
 fn a_closed_store_refuses(rt: HostRuntime) -> Result<(), Fail> {
-    let mut store = NodeStore::new(Vec::from_slice(rt.alloc(), &[Node::None; 4])?);
+    let mut store = four_places(&rt)?;
     let draft = store.begin();
     let spare = store.begin();
     let first = store.put(&spare, WORKED[0]);
@@ -39,11 +46,11 @@ fn a_closed_store_refuses(rt: HostRuntime) -> Result<(), Fail> {
 
 #[test]
 fn four_places_refuse_a_fifth_node(rt: HostRuntime) -> Result<(), Fail> {
-    let mut store = NodeStore::new(Vec::from_slice(rt.alloc(), &[Node::None; 4])?);
+    let mut store = four_places(&rt)?;
     assert_eq!(rt; put_all(&mut store, &WORKED), Err(Refusal::StoreFull));
     assert_eq!(rt; store.count(), 4);
-    for place in 0..4 {
-        assert_eq!(rt; store.node(place), WORKED[place]);
+    for (place, node) in WORKED[..4].iter().enumerate() {
+        assert_eq!(rt; store.node(place), *node);
     }
     assert_eq!(rt; store.node(4), Node::None);
     Ok(())
@@ -51,7 +58,7 @@ fn four_places_refuse_a_fifth_node(rt: HostRuntime) -> Result<(), Fail> {
 
 #[test]
 fn a_tree_that_does_not_fit_leaves_the_old_one(rt: HostRuntime) -> Result<(), Fail> {
-    let mut store = NodeStore::new(Vec::from_slice(rt.alloc(), &[Node::None; 4])?);
+    let mut store = four_places(&rt)?;
     let old = [Node::Head { n: 2, p: 0 }, Node::None];
     assert_eq!(rt; install(&mut store, &old, 2), Ok(()));
     assert_eq!(rt; install(&mut store, &WORKED, 5), Err(Refusal::StoreFull));

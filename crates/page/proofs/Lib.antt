@@ -1,9 +1,11 @@
-pub mod Opening
-pub mod Words
-pub mod Fitting
-pub mod Reading
-mod Testing
 mod Checking
 mod Chunks
+pub mod Fitting
+pub mod Holding
+pub mod Opening
 pub mod Pasting
+pub mod Reading
 pub mod Regained
+mod Testing
+pub mod Words
+pub mod Written

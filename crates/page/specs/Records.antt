@@ -1,7 +1,10 @@
 -- The records of a page: one byte of kind, then a body whose length the kind fixes.
-use Rattle.std.specs.Prelude.{ℕ, zero, suc, ◌+◌, Bool, cond, List, [], ◌∷◌, ◌++◌, length, take, drop, Some, None, Option, nat_le, nat_lt, slice_index}
+use Rattle.std.specs.Prelude.{ℕ, zero, suc, ◌+◌, ◌^◌, Bool, true, cond, ◌&&◌, List, [], ◌∷◌, ◌++◌, length, take, drop, ℤ, Some, None, Option, ◌==◌, nat_le, nat_lt, slice_index}
+use Rattle.std.specs.Int.Signed.{mag}
 use Rattle.tree.specs.declared.node.Node.{Node}
 use Rattle.tree.specs.declared.node.Node.TheVariants.{Head, Keep, Split, New, Leaf, None as Blank}
+use Rattle.tree.specs.declared.kind.Kind.{Kind as NodeKind}
+use Rattle.tree.specs.declared.kind.Kind.TheVariants as kind
 use Rattle.page.specs.declared.record.Flaw.{Flaw}
 use Rattle.page.specs.declared.record.Flaw.TheVariants.{Length as FlawLength, Kind as FlawKind}
 use Rattle.page.specs.Words.{all_bytes, bytes, forms, forms_bytes, word, words}
@@ -82,3 +85,36 @@ fits_at offset node bs = nat_le (offset + cost_of node) (length bs)
 
 abbrev pub written_at : ℕ → Node → List ℕ → List ℕ
 written_at offset node bs = cond (fits_at offset node bs) (pasted offset (record_of node) bs) bs
+
+-- how many bytes the record of a kind takes, its first one among them
+abbrev pub record_length : NodeKind → ℕ
+record_length kind.Head = 3
+record_length kind.Keep = 41
+record_length kind.Split = 41
+record_length kind.New = 45
+record_length kind.Leaf = 241
+record_length kind.None = 1
+
+-- a number of 32 bits; ten of them
+abbrev pub fits32 : ℤ → Bool
+fits32 z = nat_lt (mag z) (2 ^ 31)
+
+abbrev pub all_fit32 : List ℤ → Bool
+all_fit32 [] = true
+all_fit32 (z ∷ zs) = fits32 z && all_fit32 zs
+
+abbrev pub ten : List ℤ → Bool
+ten C = length C == 10 && all_fit32 C
+
+abbrev pub all_ten : List (List ℤ) → Bool
+all_ten [] = true
+all_ten (C ∷ Cs) = ten C && all_ten Cs
+
+-- a record can hold the node: its numbers are of 32 bits, and as many as its kind has
+abbrev pub holdable : Node → Bool
+holdable (Head n p) = true
+holdable (Keep C) = ten C
+holdable (Split C) = ten C
+holdable (New d T) = fits32 d && ten T
+holdable (Leaf Cs) = length Cs == 6 && all_ten Cs
+holdable Blank = true

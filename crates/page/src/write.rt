@@ -1,112 +1,78 @@
 //! Nodes written as records.
-ghost use Rattle.std.specs.Prelude.{◌≡◌, ◌+◌, ◌≤◌, [], ◌∷◌, ◌++◌, length, nat_le};
-ghost use Rattle.page.specs.Records.{cost_of, fits_at, pasted, record_of, written_at};
-ghost use Rattle.page.specs.Words.{all_bytes, bytes, forms_bytes};
+ghost use Rattle.std.specs.Prelude.{◌≡◌, ◌+◌, true, length, map, nat_le, FitsSigned};
+ghost use Rattle.std.specs.Int.{w32};
+ghost use Rattle.page.specs.Records.{all_ten, cost_of, fits_at, holdable, record_length, record_of, ten, written_at};
+ghost use Rattle.page.specs.Words.{bytes};
 
+use tree::kind::Kind;
 use tree::node::{Node, NodeForm};
+
+/// How many bytes the record of a kind takes.
+pub fn record_length(kind: Kind) -> usize
+    ensures value { result ≡ record_length kind }
+{
+    match kind {
+        Kind::Head => 3,
+        Kind::Keep | Kind::Split => 41,
+        Kind::New => 45,
+        Kind::Leaf => 241,
+        Kind::None => 1,
+    }
+}
 
 /// How many bytes the record of a node takes.
 pub fn cost(node: &Node) -> usize
     ensures value { result ≡ cost_of node.now }
 {
+    record_length(node.kind())
+}
+
+/// The four bytes of a number, the highest first.
+fn number_bytes(x: i32) -> [u8; 4]
+    ensures value { result ≡ bytes x }
+    ensures fits { FitsSigned w32 x }
+{
+    x.to_be_bytes()
+}
+
+/// The bytes of a form, number by number.
+fn form_bytes(form: NodeForm) -> [[u8; 4]; 10]
+    ensures value { result ≡ map bytes form }
+    ensures ten { ten form ≡ true }
+{
+    form.map(number_bytes)
+}
+
+/// The bytes of six forms, form by form.
+fn leaf_bytes(forms: [NodeForm; 6]) -> [[[u8; 4]; 10]; 6]
+    ensures value { result ≡ map (map bytes) forms }
+    ensures ten { all_ten forms ≡ true }
+{
+    forms.map(form_bytes)
+}
+
+/// Inner: writes the record of a node over bytes that are just as many as it takes.
+pub fn put(node: &Node, slot: &mut [u8])
+    requires room { length slot.old ≡ cost_of node.now }
+    ensures left { slot.new ≡ record_of node.now }
+    ensures numbers { holdable node.now ≡ true }
+{
+    let (kind, body) = slot.split_at_mut(1);
+    kind[0] = u8::from(node.kind());
     match node {
-        Node::Head { n: _, p: _ } => 3,
-        Node::Keep(_) => 41,
-        Node::Split(_) => 41,
-        Node::New { d: _, form: _ } => 45,
-        Node::Leaf(_) => 241,
-        Node::None => 1,
-    }
-}
-
-/// Writes the number's four bytes from a place on.
-fn put_number(page: &mut [u8], at: usize, x: i32)
-    requires room { at + 4 ≤ length page.old }
-    ensures left { page.new ≡ pasted at (bytes x) page.old }
-{
-    page[at..at + 4].copy_from_slice(&x.to_be_bytes());
-}
-
-/// Writes a form's forty bytes from a place on.
-fn put_form(page: &mut [u8], at: usize, form: &NodeForm)
-    requires room { at + 40 ≤ length page.old }
-    ensures left { page.new ≡ pasted at (all_bytes form.now) page.old }
-    ensures long { length (all_bytes form.now) ≡ 40 }
-{
-    for k in 0..10 {
-        put_number(page, at + 4 * k, form[k]);
-    }
-}
-
-/// Writes the bytes of six forms from a place on.
-fn put_forms(page: &mut [u8], at: usize, forms: &[NodeForm; 6])
-    requires room { at + 240 ≤ length page.old }
-    ensures left { page.new ≡ pasted at (forms_bytes forms.now) page.old }
-    ensures long { length (forms_bytes forms.now) ≡ 240 }
-{
-    for k in 0..6 {
-        put_form(page, at + 40 * k, &forms[k]);
-    }
-}
-
-/// Writes one byte at a place.
-fn put_byte(page: &mut [u8], at: usize, b: u8)
-    requires room { at + 1 ≤ length page.old }
-    ensures left { page.new ≡ pasted at (b ∷ []) page.old }
-{
-    page[at] = b;
-}
-
-/// Writes a record of a kind and a form.
-fn put_form_record(page: &mut [u8], at: usize, kind: u8, form: &NodeForm)
-    requires room { at + 41 ≤ length page.old }
-    ensures left { page.new ≡ pasted at (kind ∷ all_bytes form.now) page.old }
-{
-    put_byte(page, at, kind);
-    put_form(page, at + 1, form);
-}
-
-/// Writes the record of a head.
-fn put_head(page: &mut [u8], at: usize, n: u8, p: u8)
-    requires room { at + 3 ≤ length page.old }
-    ensures left { page.new ≡ pasted at (1 ∷ n ∷ p ∷ []) page.old }
-{
-    put_byte(page, at, 1);
-    put_byte(page, at + 1, n);
-    put_byte(page, at + 2, p);
-}
-
-/// Writes the record of a new parameter.
-fn put_new(page: &mut [u8], at: usize, d: i32, form: &NodeForm)
-    requires room { at + 45 ≤ length page.old }
-    ensures left { page.new ≡ pasted at (4 ∷ (bytes d ++ all_bytes form.now)) page.old }
-{
-    put_byte(page, at, 4);
-    put_number(page, at + 1, d);
-    put_form(page, at + 5, form);
-}
-
-/// Writes the record of a leaf.
-fn put_leaf(page: &mut [u8], at: usize, forms: &[NodeForm; 6])
-    requires room { at + 241 ≤ length page.old }
-    ensures left { page.new ≡ pasted at (5 ∷ forms_bytes forms.now) page.old }
-{
-    put_byte(page, at, 5);
-    put_forms(page, at + 1, forms);
-}
-
-/// Writes the record of a node, for which there is room.
-fn put(node: &Node, page: &mut [u8], at: usize)
-    requires room { at + cost_of node.now ≤ length page.old }
-    ensures left { page.new ≡ pasted at (record_of node.now) page.old }
-{
-    match node {
-        Node::Head { n, p } => put_head(page, at, *n, *p),
-        Node::Keep(form) => put_form_record(page, at, 2, form),
-        Node::Split(form) => put_form_record(page, at, 3, form),
-        Node::New { d, form } => put_new(page, at, *d, form),
-        Node::Leaf(forms) => put_leaf(page, at, forms),
-        Node::None => put_byte(page, at, 6),
+        Node::Head { n, p } => body.copy_from_slice(&[*n, *p]),
+        Node::Keep(form) | Node::Split(form) => {
+            body.copy_from_slice(form_bytes(*form).as_flattened());
+        }
+        Node::New { d, form } => {
+            let (number, rest) = body.split_at_mut(4);
+            number.copy_from_slice(&number_bytes(*d));
+            rest.copy_from_slice(form_bytes(*form).as_flattened());
+        }
+        Node::Leaf(forms) => {
+            body.copy_from_slice(leaf_bytes(*forms).as_flattened().as_flattened());
+        }
+        Node::None => {}
     }
 }
 
@@ -123,9 +89,10 @@ pub fn write(node: &Node, page: &mut [u8], offset: usize) -> bool
     ensures said { result ≡ fits_at offset node.now page.old }
     ensures left { page.new ≡ written_at offset node.now page.old }
 {
-    if !has_room(page.len(), offset, cost(node)) {
+    let cost = cost(node);
+    if !has_room(page.len(), offset, cost) {
         return false;
     }
-    put(node, page, offset);
+    put(node, &mut page[offset..offset + cost]);
     true
 }

@@ -1,5 +1,3 @@
 pub mod Holding
-pub mod Numbers
-pub mod Over
-pub mod Recorded
+pub mod Kept
 pub mod Standing

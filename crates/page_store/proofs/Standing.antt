@@ -1,12 +1,13 @@
 -- Records that stand one after the other, read back.
-use Rattle.std.proofs.Common.{◌≡◌, ℕ, zero, suc, ◌+◌, ◌*◌, ◌<◌, ◌≤◌, ltb, ◌≢◌, List, [], ◌∷◌, ◌++◌, length, get_or, take, drop, set, Some, Ok, Err, sym, refl, ap, ◌∙◌, subst, ap₂, ⊎_elim, append_assoc, append-nil, arith, length-append, length-set, take-append-drop, Bor}
+use Rattle.std.proofs.Common.{◌≡◌, ℕ, zero, suc, ◌+◌, ◌-◌, ◌*◌, ◌<◌, ◌≤◌, ltb, ◌≢◌, List, [], ◌∷◌, ◌++◌, length, get_or, take, drop, set, Some, Ok, Err, sym, refl, ap, ◌∙◌, subst, ap₂, ⊎_elim, append_assoc, append-nil, arith, length-append, length-set, take-append-drop, Bor}
+use Prim.Native.Nat.{min}
 use Rattle.std.proofs.lemmas.List.{drop_at, drop_more, get_or-drop, get_or-set_other, get_or-set_same, length-take-le, take-append-le, take_at, take_more}
 use Rattle.std.proofs.lemmas.Bool.{cases_lt, cond-false, le-ltb}
 use Rattle.tree.specs.declared.node.Node.{Node}
 use Rattle.tree.specs.declared.node.Node.TheVariants.{Head, Keep, Split, New, Leaf, None}
 use Rattle.tree.specs.Kinds.{kind_of}
 use Rattle.store.specs.Stores.{used}
-use Rattle.page.specs.Records.{Kind, body_length, head, keep, leaf, new, node_of, none, one, opened, opened_as, page_of, record_of, split}
+use Rattle.page.specs.Records.{Kind, body_length, head, keep, leaf, new, node_of, none, one, opened, opened_as, page_of, pasted, record_of, split}
 use Rattle.page.specs.declared.record.Flaw.{Flaw}
 use Rattle.page.specs.declared.record.Record.{Record}
 use Rattle.page.specs.Ties.{Reads, body_in, kind_in}
@@ -14,9 +15,9 @@ use Rattle.page.specs.Words.{all_bytes, bytes, forms, forms_bytes, words}
 use Rattle.page.proofs.Words.{form-of, forms-of, length-form, length-six, word_bytes}
 use Rattle.page_store.specs.Costs.{byte_cost}
 use Rattle.page_store.specs.Listed.{Indexed, and_those, first_nodes, length_by}
-use Rattle.page_store.specs.Writes.{over}
-use Rattle.page_store.proofs.Holding.{AllHoldable, Holdable}
-use Rattle.page_store.proofs.Over.{take-over}
+use Rattle.page.proofs.Holding.{Holdable}
+use Rattle.page_store.proofs.Holding.{AllHoldable}
+use Rattle.page.proofs.Pasting.{take-pasted}
 
 body-opens : (k : Kind) (b rest : List ℕ) → length b ≡ body_length k → opened_as (Some k) (b ++ rest) ≡ one k b rest
 body-opens k b rest l =
@@ -140,15 +141,15 @@ holdable-at (x ∷ xs) (suc j) d h all = holdable-at xs j d (omega arith) all.1
 
 -- ---- one record more
 
-pub put_whole : (page after : List ℕ) (n : ℕ) (xs : List Node) (x : Node) → Holdable x → n + byte_cost (kind_of x) ≤ length page → take n page ≡ page_of xs → after ≡ over n (record_of x) page →
+pub put_whole : (page after : List ℕ) (n : ℕ) (xs : List Node) (x : Node) → Holdable x → n + byte_cost (kind_of x) ≤ length page → take n page ≡ page_of xs → after ≡ pasted n (record_of x) page →
     take (n + byte_cost (kind_of x)) after ≡ page_of (xs ++ (x ∷ []))
 put_whole page after n xs x h room whole wrote =
     let l = length-record x h in
-    ap₂ (λ k p. take (n + k) p) (sym l) wrote ∙ take-over n (record_of x) page (omega (arith, l)) ∙ ap (λ l. l ++ record_of x) whole
+    ap₂ (λ k p. take (n + k) p) (sym l) wrote ∙ take-pasted n (record_of x) page (omega arith) ∙ ap (λ l. l ++ record_of x) whole
     ∙ ap (λ l. page_of xs ++ l) (sym (append-nil (record_of x))) ∙ sym (page-append xs (x ∷ []))
 
 pub put-nodes : (page after : List ℕ) (n count : ℕ) (xs : List Node) (x : Node) → AllHoldable xs → Holdable x → length xs ≡ count → n + byte_cost (kind_of x) ≤ length page → take n page ≡ page_of xs →
-    after ≡ over n (record_of x) page → first_nodes (count + 1) after ≡ xs ++ (x ∷ [])
+    after ≡ pasted n (record_of x) page → first_nodes (count + 1) after ≡ xs ++ (x ∷ [])
 put-nodes page after n count xs x all h len room whole wrote =
     let ys = xs ++ (x ∷ []) in
     let m = n + byte_cost (kind_of x) in
@@ -194,3 +195,9 @@ leads page n j i xs room whole all h is =
     let one = one_byte x in
     let e : length (page_of xs) ≡ n = ap length (sym whole) ∙ length-take-le n page room in
     (omega arith, (omega arith, omega arith))
+
+-- the last offset up to a place that the index has, or 0 where it has none
+pub noted-offset : (index : List ℕ) (xs : List Node) (place : ℕ) → Indexed index xs → place < length xs →
+    get_or index (min place (length index - 1)) 0 ≡ length (page_of (take (min place (length index - 1)) xs))
+noted-offset [] xs place h lt = let e : min place (0 - 1) ≡ 0 = omega arith in rw e
+noted-offset (a ∷ index) xs place h lt = h (min place (length (a ∷ index) - 1)) (omega arith) (omega arith)

@@ -8,7 +8,7 @@ use Rattle.page_store.specs.declared.page_store.PageStore.{PageStore}
 
 abbrev pub meaning_of : PageStore → Meaning
 meaning_of s =
-    record { nodes = first_nodes s.count (vec_items s.page); is_open = s.«open»; capacity = vec_len s.page; cost = byte_cost }
+    record { nodes = first_nodes s.count (vec_items s.page); is_open = s.gate.is_open; capacity = vec_len s.page; cost = byte_cost }
 
 -- where the record of the listed node at a place begins
 abbrev pub offset_of : PageStore → ℕ → ℕ

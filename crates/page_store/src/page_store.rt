@@ -4,7 +4,12 @@ ghost use Rattle.page.specs.Records.{page_of};
 ghost use Rattle.page_store.specs.Listed.{Indexed, first_nodes};
 ghost use Rattle.page_store.specs.Writes.{all_holdable};
 
+use store::gate::{Draft, Gate};
+
 pub mod acts;
+
+/// The mark of a page store's gate and drafts. It has no values.
+pub enum Pages {}
 
 /// Lists the nodes whose records stand first in the page; the page's length is the capacity. Page
 /// and index are handed in, so that neither making the store nor a put can want for memory.
@@ -15,7 +20,7 @@ pub struct PageStore {
     index: Vec<usize>,
     count: usize,
     used: usize,
-    open: bool,
+    gate: Gate<Pages>,
     ghost within: { used ≤ vec_len page },
     ghost whole: { take used page.items ≡ page_of (first_nodes count page.items) },
     ghost all: { length (first_nodes count page.items) ≡ count },
@@ -23,7 +28,5 @@ pub struct PageStore {
     ghost indexed: { Indexed index.items (first_nodes count page.items) },
 }
 
-/// A draft of a page store: only begin makes one, and it is no `Drop`.
-pub struct PageDraft {
-    mark: (),
-}
+/// A draft of a page store.
+pub type PageDraft = Draft<Pages>;

@@ -1,12 +1,13 @@
 //! A node, read from its record in a page.
 ghost use Rattle.std.specs.Prelude.{◌≡◌, ℕ, ◌≤◌, true, List, ◌++◌, length, drop};
-ghost use Rattle.page.specs.Records.{record_of};
+ghost use Rattle.page.specs.Records.{holdable, record_of};
 ghost use Rattle.page_store.specs.Listed.{length_by};
-ghost use Rattle.page_store.specs.Writes.{holdable};
 ghost use Rattle.tree.specs.declared.node.Node.{Node as TheNode};
 
 use page::back::node_of;
 use page::record::read;
+use page::write::record_length;
+use tree::kind::Kind;
 use tree::node::Node;
 
 /// Inner: the node whose record stands first.
@@ -31,11 +32,5 @@ pub fn node_from(page: &[u8], at: usize) -> Node
 pub fn length_of(kind: u8) -> usize
     ensures value { result ≡ length_by kind }
 {
-    match kind {
-        1 => 3,
-        2 | 3 => 41,
-        4 => 45,
-        5 => 241,
-        _ => 1,
-    }
+    Kind::try_from(kind).map_or(1, record_length)
 }

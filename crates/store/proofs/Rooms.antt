@@ -6,7 +6,7 @@ use Rattle.base.specs.declared.refusal.Refusal.TheVariants.{StoreFull}
 use Rattle.tree.specs.Kinds.{kind_of}
 use Rattle.tree.specs.declared.node.Node.{Node}
 use Rattle.tree.specs.declared.kind.Kind.{Kind}
-use Rattle.store.specs.Stores.{Meaning, used, free, holding, put_answer, after_put, install_answer, installed}
+use Rattle.store.specs.Stores.{Meaning, used, free, holding, passed, put_answer, after_put, install_answer, installed}
 
 pub used-append : (cost : Kind → ℕ) (xs ys : List Node) → used cost (xs ++ ys) ≡ used cost xs + used cost ys
 used-append cost [] ys = omega arith
@@ -30,6 +30,11 @@ used-part cost xs i =
 pub used-one : (xs : List Node) → used (λ _. 1) xs ≡ length xs
 used-one [] = refl
 used-one (x ∷ xs) = let e = used-one xs in omega arith
+
+-- what lets in is open
+pub passed-open : (b : Bool) → passed b ≡ Ok tt → b ≡ true
+passed-open true e = refl
+passed-open false e = let z : ◌≡◌ {A = ℕ} 0 1 = cc in absurd (omega arith)
 
 -- a put at an open store
 module _ (m : Meaning) (x : Node) (is_open : m.is_open ≡ true) where

@@ -9,4 +9,4 @@ unit_cost _ = 1
 
 abbrev pub meaning_of : NodeStore → Meaning
 meaning_of s =
-    record { nodes = take s.count (vec_items s.table); is_open = s.«open»; capacity = vec_len s.table; cost = unit_cost }
+    record { nodes = take s.count (vec_items s.table); is_open = s.gate.is_open; capacity = vec_len s.table; cost = unit_cost }

@@ -30,6 +30,10 @@ used cost (x ∷ xs) = cost (kind_of x) + used cost xs
 abbrev pub free : Meaning → ℕ
 free m = m.capacity - used m.cost m.nodes
 
+-- whether a gate lets in, by whether it is open
+abbrev pub passed : Bool → Result (Unit {0}) Refusal
+passed b = cond b (Ok tt) (Err StoreClosed)
+
 -- what is left by a call: a refusal alters nothing
 abbrev pub unless_refused : Result (Unit {0}) Refusal → Meaning → Meaning → Meaning
 unless_refused (Ok _) after before = after
@@ -48,7 +52,7 @@ after_put m x = unless_refused (put_answer m x) (holding m (m.nodes ++ (x ∷ []
 
 -- finish and scrap: both close, and scrap empties as well
 abbrev pub close_answer : Meaning → Result (Unit {0}) Refusal
-close_answer m = cond m.is_open (Ok tt) (Err StoreClosed)
+close_answer m = passed m.is_open
 
 abbrev pub after_finish : Meaning → Meaning
 after_finish m = unless_refused (close_answer m) (holding m m.nodes false) m

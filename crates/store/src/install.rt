@@ -14,10 +14,7 @@ fn fits<T: Store>(store: &T, nodes: &[Node]) -> Result<(), Refusal>
     let mut left = store.capacity();
     for node in nodes {
         let units = store.cost(node.kind());
-        if left < units {
-            return Err(Refusal::StoreFull);
-        }
-        left -= units;
+        left = left.checked_sub(units).ok_or(Refusal::StoreFull)?;
     }
     Ok(())
 }
@@ -44,9 +41,5 @@ pub fn install<T: Store>(store: &mut T, work: &[Node], count: usize) -> Result<(
     ensures answer { result ≡ install_answer (T.meaning store.old) (take count work.now) }
     ensures left { T.meaning store.new ≡ installed (T.meaning store.old) (take count work.now) }
 {
-    if count < work.len() {
-        replace(store, &work[0..count])
-    } else {
-        replace(store, work)
-    }
+    replace(store, work.get(..count).unwrap_or(work))
 }

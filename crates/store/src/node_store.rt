@@ -1,21 +1,23 @@
 //! A store over a table of nodes.
 ghost use Rattle.std.specs.Prelude.{◌≤◌, vec_len};
 
+use crate::gate::{Draft, Gate};
 use tree::node::Node;
 
 pub mod acts;
 
+/// The mark of a node store's gate and drafts. It has no values.
+pub enum Nodes {}
+
 /// Lists its first nodes; the table's length is the capacity. The table is handed in, so that
-/// neither making the store nor a put can want for memory.
+/// neither making the store nor a put can want for memory, and the count stands beside it.
 #[derive(Drop)]
 pub struct NodeStore {
     table: Vec<Node>,
     count: usize,
-    open: bool,
+    gate: Gate<Nodes>,
     ghost within: { count ≤ vec_len table },
 }
 
-/// A draft of a node store: only begin makes one, and it is no `Drop`.
-pub struct NodeDraft {
-    mark: (),
-}
+/// A draft of a node store.
+pub type NodeDraft = Draft<Nodes>;

@@ -1,40 +1,20 @@
 //! What a page store does.
 ghost use Rattle.std.specs.Prelude.{◌≡◌, ◌+◌, ◌<◌, ◌≤◌, true, take, vec_len, slice_set};
-ghost use Rattle.store.specs.Stores.{fresh, used, close_answer, after_finish};
-ghost use Rattle.page.specs.Records.{page_of, record_of};
+ghost use Rattle.store.specs.Stores.{fresh, used};
+ghost use Rattle.page.specs.Records.{holdable, page_of, pasted, record_of};
 ghost use Rattle.page_store.specs.Costs.{byte_cost};
 ghost use Rattle.page_store.specs.PageStores.{meaning_of, offset_of};
-ghost use Rattle.page_store.specs.Writes.{holdable, over};
 ghost use Rattle.tree.specs.Kinds.{kind_of};
 
 use super::{PageDraft, PageStore};
 use crate::read::{length_of, node_from};
 use crate::write::write_record;
 use base::refusal::Refusal;
+use page::write::record_length;
+use store::gate::Gate;
 use store::store::Store;
 use tree::kind::Kind;
 use tree::node::Node;
-
-/// A place, and the offset of its record.
-#[derive(Clone, Copy)]
-struct Mark {
-    place: usize,
-    offset: usize,
-}
-
-/// How many bytes the record of a node has.
-fn bytes_of(kind: Kind) -> usize
-    ensures answer { result ≡ byte_cost kind }
-{
-    match kind {
-        Kind::Head => 3,
-        Kind::Keep => 41,
-        Kind::Split => 41,
-        Kind::New => 45,
-        Kind::Leaf => 241,
-        Kind::None => 1,
-    }
-}
 
 impl PageStore {
     /// A store over this page, closed and empty.
@@ -46,57 +26,18 @@ impl PageStore {
             index,
             count: 0,
             used: 0,
-            open: false,
+            gate: Gate::new(),
         }
     }
 
-    /// Takes a draft back and closes the store.
-    fn close(&mut self, draft: PageDraft) -> Result<(), Refusal>
-        ensures answer { result ≡ close_answer (meaning_of self.old) }
-        ensures left { meaning_of self.new ≡ after_finish (meaning_of self.old) }
-    {
-        let PageDraft { mark: () } = draft;
-        if !self.open {
-            return Err(Refusal::StoreClosed);
-        }
-        self.open = false;
-        Ok(())
-    }
-
-    /// The offset of a record that the index has, at this place or the nearest before it.
-    fn nearest(&self, place: usize) -> Mark
+    /// The offset of the record at a place: from the last one up to there that the index has, from record to record.
+    fn offset(&self, place: usize) -> usize
         requires { place < self.now.count }
-        ensures before { result.place ≤ place }
-        ensures offset { result.offset ≡ offset_of self.now result.place }
-    {
-        let marks = self.index.len();
-        if place < marks {
-            Mark {
-                place,
-                offset: self.index[place],
-            }
-        } else if marks == 0 {
-            Mark {
-                place: 0,
-                offset: 0,
-            }
-        } else {
-            Mark {
-                place: marks - 1,
-                offset: self.index[marks - 1],
-            }
-        }
-    }
-
-    /// The offset of the record at a place, found by going from record to record.
-    fn offset(&self, from: Mark, place: usize) -> usize
-        requires listed { place < self.now.count }
-        requires before { from.place ≤ place }
-        requires start { from.offset ≡ offset_of self.now from.place }
         ensures answer { result ≡ offset_of self.now place }
     {
-        let mut at = from.offset;
-        for _ in from.place..place {
+        let noted = place.min(self.index.len().saturating_sub(1));
+        let mut at = self.index.get(noted).copied().unwrap_or(0);
+        for _ in noted..place {
             at += length_of(self.page[at]);
         }
         at
@@ -123,15 +64,15 @@ impl PageStore {
 fn note(index: &mut Vec<usize>, place: usize, offset: usize)
     ensures left { index.new.items ≡ slice_set index.old.items place offset }
 {
-    if place < index.len() {
-        index[place] = offset;
+    if let Some(noted) = index.get_mut(place) {
+        *noted = offset;
     }
 }
 
 /// Writes the record of a node into the page.
 fn write(page: &mut Vec<u8>, at: usize, node: &Node)
     requires { at + byte_cost (kind_of node.now) ≤ vec_len page.old }
-    ensures left { page.new.items ≡ over at (record_of node.now) page.old.items }
+    ensures left { page.new.items ≡ pasted at (record_of node.now) page.old.items }
     ensures size { vec_len page.new ≡ vec_len page.old }
     ensures numbers { holdable node.now ≡ true }
 {
@@ -146,15 +87,12 @@ impl Store for PageStore {
     fn begin(&mut self) -> PageDraft {
         self.count = 0;
         self.used = 0;
-        self.open = true;
-        PageDraft { mark: () }
+        self.gate.open()
     }
 
-    fn put(&mut self, _draft: &PageDraft, node: Node) -> Result<(), Refusal> {
-        if !self.open {
-            return Err(Refusal::StoreClosed);
-        }
-        let units = bytes_of(node.kind());
+    fn put(&mut self, draft: &PageDraft, node: Node) -> Result<(), Refusal> {
+        self.gate.pass(draft)?;
+        let units = record_length(node.kind());
         let used = self.used;
         let free = self.page.len() - used;
         if free < units {
@@ -169,11 +107,11 @@ impl Store for PageStore {
     }
 
     fn finish(&mut self, draft: PageDraft) -> Result<(), Refusal> {
-        self.close(draft)
+        self.gate.close(draft)
     }
 
     fn scrap(&mut self, draft: PageDraft) -> Result<(), Refusal> {
-        self.close(draft)?;
+        self.finish(draft)?;
         self.count = 0;
         self.used = 0;
         Ok(())
@@ -181,7 +119,7 @@ impl Store for PageStore {
 
     fn node(&self, place: usize) -> Node {
         if place < self.count {
-            let at = self.offset(self.nearest(place), place);
+            let at = self.offset(place);
             node_from(self.page.as_slice(), at)
         } else {
             Node::None
@@ -193,7 +131,7 @@ impl Store for PageStore {
     }
 
     fn cost(&self, kind: Kind) -> usize {
-        bytes_of(kind)
+        record_length(kind)
     }
 
     fn capacity(&self) -> usize {
@@ -201,6 +139,6 @@ impl Store for PageStore {
     }
 
     fn is_open(&self) -> bool {
-        self.open
+        self.gate.is_open()
     }
 }

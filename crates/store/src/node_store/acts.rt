@@ -1,9 +1,10 @@
 //! What a node store does.
 ghost use Rattle.std.specs.Prelude.{◌≡◌, vec_len};
 ghost use Rattle.store.specs.NodeStores.{meaning_of, unit_cost};
-ghost use Rattle.store.specs.Stores.{fresh, close_answer, after_finish};
+ghost use Rattle.store.specs.Stores.{fresh};
 
 use super::{NodeDraft, NodeStore};
+use crate::gate::Gate;
 use crate::store::Store;
 use base::refusal::Refusal;
 use tree::kind::Kind;
@@ -17,21 +18,8 @@ impl NodeStore {
         NodeStore {
             table,
             count: 0,
-            open: false,
+            gate: Gate::new(),
         }
-    }
-
-    /// Takes a draft back and closes the store.
-    fn close(&mut self, draft: NodeDraft) -> Result<(), Refusal>
-        ensures answer { result ≡ close_answer (meaning_of self.old) }
-        ensures left { meaning_of self.new ≡ after_finish (meaning_of self.old) }
-    {
-        let NodeDraft { mark: () } = draft;
-        if !self.open {
-            return Err(Refusal::StoreClosed);
-        }
-        self.open = false;
-        Ok(())
     }
 }
 
@@ -42,14 +30,11 @@ impl Store for NodeStore {
 
     fn begin(&mut self) -> NodeDraft {
         self.count = 0;
-        self.open = true;
-        NodeDraft { mark: () }
+        self.gate.open()
     }
 
-    fn put(&mut self, _draft: &NodeDraft, node: Node) -> Result<(), Refusal> {
-        if !self.open {
-            return Err(Refusal::StoreClosed);
-        }
+    fn put(&mut self, draft: &NodeDraft, node: Node) -> Result<(), Refusal> {
+        self.gate.pass(draft)?;
         let count = self.count;
         let free = self.table.len() - count;
         if free < 1 {
@@ -61,11 +46,11 @@ impl Store for NodeStore {
     }
 
     fn finish(&mut self, draft: NodeDraft) -> Result<(), Refusal> {
-        self.close(draft)
+        self.gate.close(draft)
     }
 
     fn scrap(&mut self, draft: NodeDraft) -> Result<(), Refusal> {
-        self.close(draft)?;
+        self.finish(draft)?;
         self.count = 0;
         Ok(())
     }
@@ -91,6 +76,6 @@ impl Store for NodeStore {
     }
 
     fn is_open(&self) -> bool {
-        self.open
+        self.gate.is_open()
     }
 }

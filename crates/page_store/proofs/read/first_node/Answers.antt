@@ -1,5 +1,5 @@
 use Rattle.std.proofs.Common.{◌∙◌}
-use Rattle.page_store.proofs.Holding.{holdable-from}
+use Rattle.page.proofs.Holding.{holdable-from}
 use Rattle.page_store.proofs.Standing.{never-refused, read_back}
 use Rattle.page_store.proofs.read.first_node.Goals as goal
 

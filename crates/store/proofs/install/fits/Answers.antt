@@ -1,18 +1,24 @@
-use Rattle.std.proofs.Common.{◌+◌, sym, ap, ◌∙◌, arith}
-use Rattle.std.proofs.lemmas.List.{take_all}
-use Rattle.store.specs.Stores.{used}
-use Rattle.store.proofs.Rooms.{used-more, used-part, install-fits, install-full}
+use Rattle.std.proofs.Common.{◌≡◌, ◌+◌, ◌-◌, ◌≤◌, Err, sym, ap, ◌∙◌, subst, arith}
+use Rattle.std.proofs.lemmas.Result.{err_from_is_err_and}
+use Rattle.std.specs.Option.{SomeIff, ok_or}
+use Rattle.base.specs.declared.refusal.Refusal.TheVariants.{StoreFull}
+use Rattle.store.proofs.Rooms.{used-more, used-part, install-full}
 use Rattle.store.proofs.install.fits.Goals as goal
 
-pub returns-then-left-units : goal.returns-then-left-units
-returns-then-left-units g c =
+pub returns-in_err-left : goal.returns-in_err-left
+returns-in_err-left g c =
     let m = g.T.Store.meaning c.args.store.now in
     let xs = c.args.nodes.now in
     let i = c.loop-node.node-index in
     let units = ◌∙◌ {b = m.cost c.kind.result} c.cost-units.ensures.answer (ap m.cost c.kind.ensures.answer) in
     let more = used-more m.cost xs i _ _ c.loop-node-test.true units in
     let part = used-part m.cost xs (i + 1) in
-    record { answer = sym (install-full m xs (omega arith)).0 }
+    let short : (c.cost-units.result ≤ c.loop-node.left) → ⊥ = subst (λ o. SomeIff o (c.cost-units.result ≤ c.loop-node.left) (c.loop-node.left - c.cost-units.result)) c.in_err-left.ensures.ok_part c.checked_sub.ensures in
+    let p = err_from_is_err_and c.from_residual.result c.from_residual.ensures.1 in
+    let full = (install-full m xs (omega arith)).0 in
+    let none = ap (λ o. ok_or o StoreFull) c.in_err-left.ensures.ok_part in
+    let e : c.in_err-left.field-0.0 ≡ StoreFull = let v = c.in_err-left.ensures.value ∙ none in cc in
+    record { answer = p.1 ∙ ap Err (p.2 ∙ e) ∙ sym full }
 
 pub loop-node-preserved : goal.loop-node-preserved
 loop-node-preserved g c =
@@ -21,11 +27,5 @@ loop-node-preserved g c =
     let i = c.loop-node.node-index in
     let units = ◌∙◌ {b = m.cost c.kind.result} c.cost-units.ensures.answer (ap m.cost c.kind.ensures.answer) in
     let more = used-more m.cost xs i _ _ c.loop-node-test.true units in
+    let rest = subst (λ o. SomeIff o (c.cost-units.result ≤ c.loop-node.left) (c.loop-node.left - c.cost-units.result)) c.in_ok-left.ensures.ok_part c.checked_sub.ensures in
     (omega arith, omega arith)
-
-pub returns : goal.returns
-returns g c =
-    let m = g.T.Store.meaning c.args.store.now in
-    let xs = c.args.nodes.now in
-    let all = ap (used m.cost) (take_all c.loop-node.node-index xs c.loop-node-test.false) in
-    record { answer = sym (install-fits m xs (omega arith)).0 }

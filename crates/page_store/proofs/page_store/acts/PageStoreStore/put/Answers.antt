@@ -1,33 +1,34 @@
-use Rattle.std.proofs.Common.{◌≡◌, ◌+◌, ◌≤◌, [], ◌∷◌, ◌++◌, length, take, vec_items, sym, ap, ◌∙◌, subst, arith, length-append}
-use Rattle.std.proofs.lemmas.List.{length-take-le}
+use Rattle.std.proofs.Common.{◌≡◌, ◌+◌, ◌≤◌, true, [], ◌∷◌, ◌++◌, length, take, vec_items, sym, ap, ◌∙◌, subst, arith, length-append}
 use Rattle.tree.specs.Kinds.{kind_of}
 use Rattle.page.specs.Records.{page_of}
-use Rattle.store.specs.Stores.{used}
-use Rattle.store.proofs.Rooms.{put-fits, put_full, same-meaning}
+use Rattle.store.proofs.Rooms.{passed-open, put-fits, put_full, same-meaning}
 use Rattle.page_store.specs.Costs.{byte_cost}
 use Rattle.page_store.specs.Listed.{Indexed, first_nodes}
 use Rattle.page_store.specs.PageStores.{meaning_of}
 use Rattle.page_store.specs.Writes.{all_holdable}
-use Rattle.page_store.proofs.Holding.{all_from, all-to, holdable-from}
-use Rattle.page_store.proofs.Standing.{cost-some, count-page, holdable-append, length-page, put-index, put-nodes, put_whole}
+use Rattle.page.proofs.Holding.{holdable-from}
+use Rattle.page_store.proofs.Holding.{all-to}
+use Rattle.page_store.proofs.Kept.{all-held, length-listed, listed, used-is}
+use Rattle.page_store.proofs.Standing.{cost-some, count-page, holdable-append, put-index, put-nodes, put_whole}
 use Rattle.page_store.proofs.page_store.acts.PageStoreStore.put.Goals as goal
 
 pub returns-then-free-units : goal.returns-then-free-units
 returns-then-free-units c =
     let s = c.args.self.now in
-    let xs = first_nodes s.count (vec_items s.page) in
-    let u : c.bytes_of-units.result ≡ byte_cost (kind_of c.args.node) = c.bytes_of-units.ensures.answer ∙ ap byte_cost c.kind.ensures.answer in
-    let l : used byte_cost xs ≡ s.used = sym (length-page xs (all_from xs s.numbers)) ∙ ap length (sym s.whole) ∙ length-take-le s.used (vec_items s.page) (omega arith) in
-    let p = put_full (meaning_of s) c.args.node c.if-not-self.false (omega arith) in
+    let is_open : s.gate.is_open ≡ true = passed-open _ (sym c.in_ok-pass.ensures.answer) in
+    let xs = listed s in
+    let u : c.record_length-units.result ≡ byte_cost (kind_of c.args.node) = c.record_length-units.ensures.value ∙ ap byte_cost c.kind.ensures.answer in
+    let l = used-is s in
+    let p = put_full (meaning_of s) c.args.node is_open (omega arith) in
     record { answer = sym p.0; left = sym p.1 }
 
 pub overflow_add-self : goal.overflow_add-self
 overflow_add-self c =
     let s = c.args.self.now in
-    let xs = first_nodes s.count (vec_items s.page) in
-    let u : c.bytes_of-units.result ≡ byte_cost (kind_of c.args.node) = c.bytes_of-units.ensures.answer ∙ ap byte_cost c.kind.ensures.answer in
+    let xs = listed s in
+    let u : c.record_length-units.result ≡ byte_cost (kind_of c.args.node) = c.record_length-units.ensures.value ∙ ap byte_cost c.kind.ensures.answer in
     let some = cost-some c.args.node in
-    let n : length (page_of xs) ≡ s.used = ap length (sym s.whole) ∙ length-take-le s.used (vec_items s.page) (omega arith) in
+    let n = length-listed s in
     let m : length xs ≤ length (page_of xs) = count-page xs in
     let l : length xs ≡ s.count = s.all in
     record { fits = omega arith }
@@ -38,11 +39,11 @@ invariant_of-self c =
     let x = c.args.node in
     let page = vec_items s.page in
     let after = vec_items c.write.new.page in
-    let xs = first_nodes s.count page in
-    let u : c.bytes_of-units.result ≡ byte_cost (kind_of x) = c.bytes_of-units.ensures.answer ∙ ap byte_cost c.kind.ensures.answer in
+    let xs = listed s in
+    let u : c.record_length-units.result ≡ byte_cost (kind_of x) = c.record_length-units.ensures.value ∙ ap byte_cost c.kind.ensures.answer in
     let room : s.used + byte_cost (kind_of x) ≤ length page = omega arith in
     let hold = holdable-from x c.write.ensures.numbers in
-    let all = all_from xs s.numbers in
+    let all = all-held s in
     let w = put_whole page after s.used xs x hold room s.whole c.write.ensures.left in
     let e : first_nodes (s.count + 1) after ≡ xs ++ (x ∷ []) = put-nodes page after s.used s.count xs x all hold s.all room s.whole c.write.ensures.left in
     let size = c.write.ensures.size in
@@ -60,13 +61,14 @@ invariant_of-self c =
 pub returns : goal.returns
 returns c =
     let s = c.args.self.now in
+    let is_open : s.gate.is_open ≡ true = passed-open _ (sym c.in_ok-pass.ensures.answer) in
     let x = c.args.node in
     let page = vec_items s.page in
-    let xs = first_nodes s.count page in
-    let u : c.bytes_of-units.result ≡ byte_cost (kind_of x) = c.bytes_of-units.ensures.answer ∙ ap byte_cost c.kind.ensures.answer in
+    let xs = listed s in
+    let u : c.record_length-units.result ≡ byte_cost (kind_of x) = c.record_length-units.ensures.value ∙ ap byte_cost c.kind.ensures.answer in
     let room : s.used + byte_cost (kind_of x) ≤ length page = omega arith in
-    let all = all_from xs s.numbers in
-    let l : used byte_cost xs ≡ s.used = sym (length-page xs all) ∙ ap length (sym s.whole) ∙ length-take-le s.used page (omega arith) in
+    let all = all-held s in
+    let l = used-is s in
     let e = put-nodes page (vec_items c.write.new.page) s.used s.count xs x all (holdable-from x c.write.ensures.numbers) s.all room s.whole c.write.ensures.left in
-    let p = put-fits (meaning_of s) x c.if-not-self.false (omega arith) in
-    record { answer = sym p.0; left = same-meaning _ _ _ _ _ _ _ e c.if-not-self.false c.write.ensures.size ∙ sym p.1 }
+    let p = put-fits (meaning_of s) x is_open (omega arith) in
+    record { answer = sym p.0; left = same-meaning _ _ _ _ _ _ _ e is_open c.write.ensures.size ∙ sym p.1 }
