@@ -1,9 +1,9 @@
 -- The value of a form, summed from the constant on.
-use Rattle.std.proofs.Common.{◌≡◌, ℕ, suc, ◌+◌, ◌<◌, ◌≤◌, List, [], ◌∷◌, length, drop, ℤ, pos, ◌+ℤ◌, ◌*ℤ◌, refl, ap, ◌∙◌, arith}
+use Rattle.std.proofs.Common.{◌≡◌, ℕ, suc, ◌+◌, ◌<◌, ◌≤◌, ◌⊎◌, inl, inr, List, [], ◌∷◌, length, drop, ℤ, pos, ◌+ℤ◌, ◌*ℤ◌, refl, nat_abs, ap, ◌∙◌, subst, arith}
 use lib.IntN.{*ℤ-one}
 use Rattle.std.proofs.lemmas.List.{drop_all, drop_more}
 use Rattle.std.proofs.lemmas.Int.{ints}
-use Rattle.base.specs.Numbers.{at}
+use Rattle.base.specs.Numbers.{AllWithin, at}
 use Rattle.base.specs.Forms.{dot, value_at}
 
 pub constant-first : (C ρ : List ℤ) → length C ≡ suc (length ρ) → value_at C ρ ≡ at C (length ρ) +ℤ dot C ρ
@@ -26,3 +26,14 @@ dot-nil (x ∷ xs) = refl
 -- past the end there is nothing to add
 pub dot-past : (C ρ : List ℤ) (k : ℕ) → length ρ ≤ k → dot C (drop k ρ) ≡ pos 0
 dot-past C ρ k h = ap (dot C) (drop_all k ρ h) ∙ dot-nil C
+
+-- where one of the lists is at its end there is nothing to add
+pub dot-end : (C ρ : List ℤ) → (length C ≡ 0) ⊎ (length ρ ≡ 0) → dot C ρ ≡ pos 0
+dot-end [] ρ h = refl
+dot-end (c ∷ C) [] h = refl
+dot-end (c ∷ C) (r ∷ ρ) (inl e) = absurd (let no : ⊥ = omega arith in no)
+dot-end (c ∷ C) (r ∷ ρ) (inr e) = absurd (let no : ⊥ = omega arith in no)
+
+-- of a list of small numbers the first is small, and so are the others
+pub first-within : (m : ℕ) (x : ℤ) (xs all : List ℤ) → all ≡ x ∷ xs → AllWithin m all → (nat_abs x ≤ m) × AllWithin m xs
+first-within m x xs all e a = (subst (λ l. nat_abs (at l 0) ≤ m) e (a 0), λ k. subst (λ l. nat_abs (at l (suc k)) ≤ m) e (a (suc k)))

@@ -1,5 +1,6 @@
 -- Whole numbers: division that rounds down, greatest common divisors, the range.
-use Rattle.std.specs.Prelude.{◌≡◌, ℕ, zero, suc, ◌-◌, ◌/◌, ◌%◌, ◌^◌, ◌≤◌, Bool, true, ◌&&◌, List, [], ◌∷◌, ℤ, pos, negsuc, ◌*ℤ◌, int_div, nat_le, slice_index_or, unsigned_abs}
+use Rattle.std.specs.Prelude.{◌≡◌, ℕ, zero, suc, ◌-◌, ◌/◌, ◌%◌, ◌^◌, ◌≤◌, Bool, List, [], ◌∷◌, ℤ, pos, negsuc, ◌*ℤ◌, int_div, nat_le, slice_index_or, unsigned_abs}
+use Rattle.std.specs.List.{list_all}
 
 -- the number at a place, 0 past the end
 abbrev pub at : List ℤ → ℕ → ℤ
@@ -52,8 +53,7 @@ abbrev pub in_range : ℤ → Bool
 in_range x = nat_le (unsigned_abs x) (2 ^ 30)
 
 abbrev pub within : List ℤ → Bool
-within [] = true
-within (x ∷ xs) = in_range x && within xs
+within xs = list_all in_range xs
 
 -- no number of the list is larger than m in size (past the end there is 0)
 abbrev pub AllWithin : ℕ → List ℤ → Type 0

@@ -52,8 +52,8 @@ pub fn value(form: &Form, setting: &Setting) -> i64
     let mut sum = Sum {
         value: form[CONSTANT],
     };
-    for k in 0..CONSTANT {
-        sum = plus_product(sum, form[k], setting[k]);
+    for (c, x) in form.iter().zip(setting) {
+        sum = plus_product(sum, *c, *x);
     }
     sum.value
 }

@@ -72,20 +72,15 @@ pub fn is_small(x: i64) -> bool
 pub fn in_range(xs: &[i64]) -> bool
     ensures { result ≡ within xs.now }
 {
-    for x in xs {
-        if !is_small(*x) {
-            return false;
-        }
-    }
-    true
+    xs.iter().all(|x| is_small(*x))
 }
 
 /// Each number modulo the divisor, in place.
 pub fn reduce(by: Divisor, xs: &mut [i64])
     ensures { xs.new ≡ map (mod_by by.value) xs.old }
 {
-    for k in 0..xs.len() {
-        xs[k] = modulo(by, xs[k]);
+    for x in xs.iter_mut() {
+        *x = modulo(by, *x);
     }
 }
 
@@ -93,8 +88,8 @@ pub fn reduce(by: Divisor, xs: &mut [i64])
 pub fn divide(by: Divisor, xs: &mut [i64])
     ensures { xs.new ≡ map (quot_by by.value) xs.old }
 {
-    for k in 0..xs.len() {
-        xs[k] = quotient(by, xs[k]);
+    for x in xs.iter_mut() {
+        *x = quotient(by, *x);
     }
 }
 
@@ -111,7 +106,7 @@ pub fn negate(xs: &mut [i64])
     requires { AllWithin (2 ^ 62) xs.old }
     ensures { xs.new ≡ map neg_ℤ xs.old }
 {
-    for k in 0..xs.len() {
-        xs[k] = opposite_number(xs[k]);
+    for x in xs.iter_mut() {
+        *x = opposite_number(*x);
     }
 }

@@ -10,12 +10,6 @@ both-fit s x y hs hx hy =
     let a = add-within s (x *ℤ y) (9 * 2 ^ 58) (2 ^ 58) hs m in
     (fits-within (x *ℤ y) (omega (arith, m)), fits-within (s +ℤ (x *ℤ y)) (omega (arith, a)))
 
-pub overflow_mul-result : goal.overflow_mul-result
-overflow_mul-result c =
-    let fx = c.ranges.x in
-    let fy = c.ranges.y in
-    simp to_z-of_z (both-fit c.args.sum.value c.args.x c.args.y c.requires.small_sum c.requires.small_x c.requires.small_y).0
-
 pub overflow_add-result : goal.overflow_add-result
 overflow_add-result c =
     let fx = c.ranges.x in

@@ -1,50 +1,33 @@
-use Rattle.std.proofs.Common.{◌≡◌, ◌^◌, get_or, drop, pos, ◌+ℤ◌, ◌*ℤ◌, sym, ◌∙◌, arith, w64, SFits, rules}
+use Rattle.std.proofs.Common.{◌≡◌, ◌^◌, inl, inr, ⊎_elim, length, length-append, pos, ◌+ℤ◌, ◌*ℤ◌, sym, ◌∙◌, ap, arith, w64, SFits, rules}
 use Rattle.std.proofs.lemmas.Int.{ints, to_z-of_z}
 use Rattle.base.specs.Numbers.{at}
 use Rattle.base.specs.Forms.{dot}
-use Rattle.base.proofs.Products.{mul-within}
-use Rattle.base.proofs.Values.{dot-more, dot-past, value-is}
+use Rattle.base.proofs.Products.{fits-within, mul-within}
+use Rattle.base.proofs.Values.{dot-end, first-within, value-is}
 use Rattle.base.proofs.form.value.Goals as goal
 
-pub loop-k-init : goal.loop-k-init
-loop-k-init c =
-    let f : SFits w64 (get_or c.args.form.now 9 (pos 0)) = search rules in
-    simp to_z-of_z (c.requires.small_form 9, search rules)
-
-pub plus_product-sum-requires : goal.plus_product-sum-requires
-plus_product-sum-requires c =
-    let k = c.loop-k.k in
-    let C = c.args.form.now in
-    let R = c.args.setting.now in
-    let fx : SFits w64 (get_or C k (pos 0)) = search rules in
-    let fy : SFits w64 (get_or R k (pos 0)) = search rules in
+pub loop-c-preserved : goal.loop-c-preserved
+loop-c-preserved c =
+    let i = c.loop-c.invariant in
+    let x = first-within (2 ^ 31) c.in-Some.c.now c.next.new.self.a.rest.now c.loop-c.c-iterator.a.rest.now c.in-Some.ensures.steps.0 i.form in
+    let y = first-within (2 ^ 27) c.in-Some.x.now c.next.new.self.b.rest.now c.loop-c.c-iterator.b.rest.now c.in-Some.ensures.steps.1 i.setting in
+    let fx : SFits w64 c.in-Some.c.now = fits-within c.in-Some.c.now (omega (arith, x.0)) in
+    let fy : SFits w64 c.in-Some.x.now = fits-within c.in-Some.x.now (omega (arith, y.0)) in
+    let v : c.plus_product-sum.result.value ≡ c.loop-c.sum.value +ℤ (c.in-Some.c.now *ℤ c.in-Some.x.now) = simp to_z-of_z at c.plus_product-sum.ensures in
+    let m = mul-within c.in-Some.c.now c.in-Some.x.now (2 ^ 31) (2 ^ 27) x.0 y.0 in
+    let d : dot c.loop-c.c-iterator.a.rest.now c.loop-c.c-iterator.b.rest.now ≡ (c.in-Some.c.now *ℤ c.in-Some.x.now) +ℤ dot c.next.new.self.a.rest.now c.next.new.self.b.rest.now = simp (c.in-Some.ensures.steps.0, c.in-Some.ensures.steps.1) in
     record {
-      small_sum = omega (arith, c.loop-k.invariant.0);
-      small_x = simp to_z-of_z (c.requires.small_form k);
-      small_y = simp to_z-of_z (c.requires.small_setting k);
+      size = simp length-append (omega (arith, ints, v, m, i.size));
+      few = simp length-append (omega (arith, i.few, ap length c.in-Some.ensures.steps.1));
+      form = x.1;
+      setting = y.1;
+      value = omega (arith, ints, v, d, i.value);
     }
-
-pub loop-k-preserved : goal.loop-k-preserved
-loop-k-preserved c =
-    let k = c.loop-k.k in
-    let C = c.args.form.now in
-    let R = c.args.setting.now in
-    let s = c.loop-k.sum.value in
-    let p = at C k *ℤ at R k in
-    let fx : SFits w64 (get_or C k (pos 0)) = search rules in
-    let fy : SFits w64 (get_or R k (pos 0)) = search rules in
-    let v : c.plus_product-sum.result.value ≡ s +ℤ p = simp to_z-of_z at c.plus_product-sum.ensures in
-    let m = mul-within (at C k) (at R k) (2 ^ 31) (2 ^ 27) (c.requires.small_form k) (c.requires.small_setting k) in
-    let d = dot-more C R k (omega arith) (omega arith) in
-    let i = c.loop-k.invariant in
-    (omega (arith, ints, v, m, i.0), omega (arith, ints, v, d, i.1))
 
 pub returns : goal.returns
 returns c =
-    let C = c.args.form.now in
-    let R = c.args.setting.now in
-    let z = dot-past (drop c.loop-k.k C) R c.loop-k.k (omega arith) in
-    let i = c.loop-k.invariant.1 in
-    let f : SFits w64 c.loop-k.sum.value = search rules in
-    let e : c.loop-k.sum.value ≡ at C 9 +ℤ dot C R = omega (arith, ints, z, i) in
-    simp to_z-of_z (e ∙ sym (value-is C R (omega arith) (omega arith)))
+    let i = c.loop-c.invariant in
+    let z : dot c.loop-c.c-iterator.a.rest.now c.loop-c.c-iterator.b.rest.now ≡ pos 0 = dot-end _ _ (⊎_elim (λ p. inl p.1.0) (λ p. inr p.1.0) c.in-None.ensures.steps) in
+    let f : SFits w64 c.loop-c.sum.value = search rules in
+    let e : c.loop-c.sum.value ≡ at c.args.form.now 9 +ℤ dot c.args.form.now c.args.setting.now = omega (arith, ints, z, i.value) in
+    simp to_z-of_z (e ∙ sym (value-is c.args.form.now c.args.setting.now (omega arith) (omega arith)))

@@ -2,8 +2,5 @@ use Rattle.std.proofs.Common.{arith}
 use Rattle.std.proofs.lemmas.Int.{ints}
 use Rattle.base.proofs.number.opposite_number.Goals as goal
 
-pub overflow_sub-result : goal.overflow_sub-result
-overflow_sub-result c = omega (arith, ints, c.requires)
-
 pub returns : goal.returns
 returns c = omega (arith, ints, c.requires)

@@ -3,5 +3,5 @@ use Rattle.base.specs.Numbers.{mod_by}
 use Rattle.base.proofs.Fill.{Filled}
 use Rattle.base.proofs.number.reduce.Given as goal
 
-abbrev pub invariant-loop-k : goal.invariant-loop-k
-invariant-loop-k l = Filled (pos 0) (map (mod_by l.by.value) l.initial.xs) l.initial.xs l.xs l.k
+abbrev pub invariant-loop-x : goal.invariant-loop-x
+invariant-loop-x l = Filled (pos 0) (map (mod_by l.by.value) l.initial.xs) l.initial.xs l.xs l.x-index
