@@ -1,8 +1,8 @@
 -- One turn of the loops over a list of nodes.
-use Rattle.std.proofs.Common.{◌≡◌, ℕ, ◌+◌, ◌-◌, ◌<◌, ◌≤◌, true, false, cond, eqb, List, [], ◌∷◌, length, get_or, take, drop, replicate, ℤ, pos, Some, None, Ok, Err, Option, Result, sym, refl, ap, ◌∙◌, subst, arith}
+use Rattle.std.proofs.Common.{◌≡◌, ℕ, ◌+◌, ◌-◌, ◌<◌, ◌≤◌, true, false, cond, List, [], ◌∷◌, length, get_or, take, drop, replicate, ℤ, pos, Some, None, Ok, Err, Option, Result, sym, refl, ap, ◌∙◌, subst, arith}
 use lib.Signed.{le_z}
 use Rattle.std.proofs.lemmas.List.{at_drop_all, at_drop_more, drop_more, take_rest}
-use Rattle.std.proofs.lemmas.Bool.{cond-true, eq-eqb}
+use Rattle.std.proofs.lemmas.Bool.{cond-true}
 use Rattle.base.specs.declared.refusal.Refusal.{Refusal}
 use Rattle.base.specs.declared.refusal.Refusal.TheVariants.{OutsideKeep}
 use Rattle.base.specs.Forms.{value_at}
@@ -11,7 +11,7 @@ use Rattle.tree.specs.declared.node.Node.TheVariants.{Head, Keep, Split, New, Le
 use Rattle.tree.specs.declared.walk.Found.{Found}
 use Rattle.tree.specs.declared.walk.Found.TheVariants.{Point, None as NoPoint}
 use Rattle.tree.specs.declared.walk.Walk.{Walk}
-use Rattle.tree.specs.Finds.{ask_at, found_in, head_fits, is_point, kept_answer, left_of, said_of, setting_of, six_numbers, spread, walk}
+use Rattle.tree.specs.Finds.{ask_at, found_in, head_fits, kept_answer, left_of, said_of, setting_of, six_numbers, walk}
 use Rattle.tree.specs.Walks.{Six, Sixes, answer_of}
 
 -- ---- the walk
@@ -59,9 +59,6 @@ pub all-keeps : (ρ : List ℤ) (list : List Node) (k m : ℕ) → length list �
 all-keeps ρ list k m h l e n = sym (e n) ∙ at_drop_all (kept_answer n ρ) list k h ∙ ap Ok (sym (at_drop_all (walk n 0 0 ρ) list m l))
 
 -- ---- the question
-
-pub setting-is : (point : List ℤ) (p : ℕ) (ρ : List ℤ) → length point ≡ p → is_point point ≡ true → ρ ≡ spread point → Ok ρ ≡ setting_of point p
-setting-is point p ρ l e s = ap Ok s ∙ sym (cond-true (eqb (length point) p) _ _ (eq-eqb (length point) p l) ∙ cond-true (is_point point) _ _ e)
 
 pub below-keeps : (n : ℕ) (ρ : List ℤ) (list : List Node) (k : ℕ) (six : Option (List ℤ)) → kept_answer n ρ list ≡ Ok (walk n 0 0 ρ (drop k list)) → Six (walk n 0 0 ρ (take (length list - k) (drop k list))) six → Sixes (kept_answer n ρ list) (Ok six)
 below-keeps n ρ list k six e s = subst (λ r. Sixes r (Ok six)) (sym e) (subst (λ l. Six (walk n 0 0 ρ l) six) (take_rest list k) s)

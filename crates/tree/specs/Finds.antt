@@ -63,6 +63,10 @@ spread point = padded 9 point
 abbrev pub head_fits : ℕ → ℕ → Bool
 head_fits n p = (nat_le 1 n && nat_le n 6) && nat_le p 4
 
+-- p numbers, each from 0 to 1,000,000
+abbrev pub point_answer : ℕ → List ℤ → Result (Unit {0}) Refusal
+point_answer p point = cond (length point == p) (cond (is_point point) (Ok tt) (Err PointNumber)) (Err PointLength)
+
 -- the setting of a point for p parameters
 abbrev pub setting_of : List ℤ → ℕ → Result (List ℤ) Refusal
 setting_of point p = cond (length point == p) (cond (is_point point) (Ok (spread point)) (Err PointNumber)) (Err PointLength)

@@ -1,9 +1,9 @@
 //! What a list of nodes answers at a parameter point.
-ghost use Rattle.std.specs.Prelude.{◌≡◌, ◌+◌, ◌^◌, ◌<◌, ◌≤◌, true, ◌&&◌, length, take, pos, IfOk, Ok, Err, int_le, int_lt};
+ghost use Rattle.std.specs.Prelude.{◌≡◌, ◌+◌, ◌^◌, ◌<◌, ◌≤◌, true, ◌&&◌, length, take, pos, IfOk, OnOk, Ok, Err, int_le, int_lt};
 ghost use Rattle.base.specs.Numbers.{AllWithin};
 ghost use Rattle.base.specs.Forms.{value_at};
 ghost use Rattle.tree.specs.Answers.{values_at};
-ghost use Rattle.tree.specs.Finds.{all_below, found_in, head_fits, is_point, kept_answer, left_of, proper, said_of, setting_of, six_numbers, spread, walk};
+ghost use Rattle.tree.specs.Finds.{all_below, found_in, head_fits, is_point, kept_answer, left_of, point_answer, proper, said_of, setting_of, six_numbers, spread, walk};
 ghost use Rattle.tree.specs.Questions.{AnswersAsTree};
 ghost use Rattle.tree.specs.Walks.{Kept, NoneBelow, Ready, Six, Sixes, Steps, answer_of, gained, total};
 
@@ -259,18 +259,27 @@ pub fn head_fits(n: u8, p: u8) -> bool
     (1 <= n && n <= 6) && p <= 4
 }
 
-/// The setting of a point: 42 if it is not of p numbers, 43 if one is not from 0 to 1,000,000.
-fn setting_of(point: &[i64], p: u8) -> Result<Setting, Refusal>
-    requires few { p ≤ 4 }
-    ensures value { result ≡ setting_of point.now p }
-    ensures small { IfOk result (λ ρ. NoneBelow ρ × (total ρ ≤ 4000000)) }
+/// Refuses what is no point of p parameters: 42 if it is not of p numbers, 43 if one is not from 0 to 1,000,000.
+pub fn check_point(point: &[i64], p: usize) -> Result<(), Refusal>
+    ensures answer { result ≡ point_answer p point.now }
+    ensures accepted { OnOk result ((length point.now ≡ p) × (is_point point.now ≡ true)) }
 {
-    if point.len() != p as usize {
+    if point.len() != p {
         return Err(Refusal::PointLength);
     }
     if !is_point(point) {
         return Err(Refusal::PointNumber);
     }
+    Ok(())
+}
+
+/// The setting of a point, unless it is refused.
+fn setting_of(point: &[i64], p: u8) -> Result<Setting, Refusal>
+    requires few { p ≤ 4 }
+    ensures value { result ≡ setting_of point.now p }
+    ensures small { IfOk result (λ ρ. NoneBelow ρ × (total ρ ≤ 4000000)) }
+{
+    check_point(point, usize::from(p))?;
     Ok(spread_out(point))
 }
 
