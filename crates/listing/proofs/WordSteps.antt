@@ -1,21 +1,27 @@
 -- Steps along a text, and along the digits of a number.
-use Rattle.std.proofs.Common.{◌≡◌, ℕ, suc, ◌+◌, ◌-◌, ◌*◌, ◌^◌, ◌<◌, ◌≤◌, true, false, List, [], ◌∷◌, length, get_or, take, drop, Some, None, sym, ap, ◌∙◌, pow-suc, add-one, arith}
+use Rattle.std.proofs.Common.{◌≡◌, ℕ, suc, ◌+◌, ◌-◌, ◌*◌, ◌^◌, ◌<◌, ◌≤◌, Bool, true, false, not, cond, List, [], ◌∷◌, length, get_or, take, drop, Some, None, refl, sym, ap, ◌∙◌, pow-suc, add-one, arith}
 use native.Mathlib.Nat.{pow-le-pow_right}
-use Rattle.std.proofs.lemmas.List.{at_drop_more, drop_more, take_rest}
+use Rattle.std.proofs.lemmas.List.{at_drop_more, take_rest}
 use Rattle.std.proofs.lemmas.Bool.{cond-true, eq-eqb}
+use Rattle.std.specs.List.{prefix_len}
 use Rattle.listing.specs.Words.{is_blank, after_blanks, word_length, digit_of, spelled_from, natural_of, minus, number_of}
 
-pub blank-passed : (text : List ℕ) (i : ℕ) → i < length text → is_blank (get_or text i 0) ≡ true → after_blanks (drop i text) ≡ after_blanks (drop (i + 1) text)
-blank-passed text i h t = at_drop_more after_blanks text i 0 h ∙ (simp t)
+-- the first byte that is no blank, and the first that is one, as counts of the bytes before it
+pub blanks-dropped : (text : List ℕ) → after_blanks text ≡ drop (prefix_len is_blank text) text
+blanks-dropped [] = refl
+blanks-dropped (b ∷ bs) = go (is_blank b) (blanks-dropped bs)
+  where
+    go : (t : Bool) → after_blanks bs ≡ drop (prefix_len is_blank bs) bs → cond t (after_blanks bs) (b ∷ bs) ≡ drop (cond t (1 + prefix_len is_blank bs) 0) (b ∷ bs)
+    go true e = let n = prefix_len is_blank bs in let s : suc n ≡ 1 + n = omega arith in e ∙ ap (λ m. drop m (b ∷ bs)) s
+    go false e = refl
 
-pub blanks-end : (text : List ℕ) (i : ℕ) → i < length text → is_blank (get_or text i 0) ≡ false → after_blanks (drop i text) ≡ drop i text
-blanks-end text i h t = (at_drop_more after_blanks text i 0 h ∙ (simp t)) ∙ sym (drop_more text i 0 h)
-
-pub byte-passed : (text : List ℕ) (i : ℕ) → i < length text → is_blank (get_or text i 0) ≡ false → word_length (drop i text) ≡ suc (word_length (drop (i + 1) text))
-byte-passed text i h t = at_drop_more word_length text i 0 h ∙ (simp t)
-
-pub word-ends : (text : List ℕ) (i : ℕ) → i < length text → is_blank (get_or text i 0) ≡ true → word_length (drop i text) ≡ 0
-word-ends text i h t = at_drop_more word_length text i 0 h ∙ (simp t)
+pub word-found : (text : List ℕ) → word_length text ≡ prefix_len (λ x. not (is_blank x)) text
+word-found [] = refl
+word-found (b ∷ bs) = go (is_blank b) (word-found bs)
+  where
+    go : (t : Bool) → word_length bs ≡ prefix_len (λ x. not (is_blank x)) bs → cond t 0 (suc (word_length bs)) ≡ cond (not t) (1 + prefix_len (λ x. not (is_blank x)) bs) 0
+    go true e = refl
+    go false e = omega arith
 
 pub digit-passed : (digits : List ℕ) (i x d : ℕ) → i < length digits → Some d ≡ digit_of (get_or digits i 0) → spelled_from x (drop i digits) ≡ spelled_from (x * 10 + d) (drop (i + 1) digits)
 digit-passed digits i x d h t = at_drop_more (spelled_from x) digits i 0 h ∙ ap (λ o. elim o [ Some e ↦ spelled_from (x * 10 + e) (drop (i + 1) digits) | None ↦ None ]) (sym t)

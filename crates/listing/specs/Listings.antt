@@ -1,14 +1,14 @@
 -- What a listing says: n p m k fuel, then m rows, then k context rows, all of it numbers.
-use Rattle.std.specs.Prelude.{ℕ, zero, suc, ◌+◌, ◌*◌, ◌≤◌, Bool, cond, List, [], ◌∷◌, length, take, drop, ℤ, pos, negsuc, Some, None, Ok, Err, Result, ◌==◌, nat_le, slice_index_or}
+use Rattle.std.specs.Prelude.{ℕ, zero, suc, ◌+◌, ◌*◌, Bool, cond, List, [], ◌∷◌, length, take, drop, ℤ, pos, negsuc, Some, None, Ok, Err, Result, ◌==◌, nat_le, slice_index_or}
 use Rattle.std.specs.Borrow.{Bor}
 use Rattle.base.specs.declared.refusal.Refusal.{Refusal}
 use Rattle.base.specs.declared.refusal.Refusal.TheVariants.{Counts as CountsRefused, Listing as ListingRefused}
 use Rattle.source.specs.Systems.{System}
+use Rattle.source.specs.Counted.{Sizes, context_row_length, row_length}
 use Rattle.source.specs.Limits.{counts_answer}
 use Rattle.source.specs.Enters.{enter_answer, entered, confine_answer, confined}
 use Rattle.source.specs.RowSources.{meaning_of, new_answer}
 use Rattle.listing.specs.Words.{after_blanks, first_word, after_word, number_of}
-use Rattle.listing.specs.declared.counts.Counts.{Counts}
 use Rattle.listing.specs.declared.read.Listing.{Listing}
 
 -- what is refused stays refused by the same number
@@ -44,30 +44,17 @@ abbrev pub count_at : List ℤ → ℕ → Result ℕ Refusal
 count_at xs i = count_of (slice_index_or xs i (pos 0))
 
 -- n p m k, refused where they are out of limits
-abbrev pub counts_of : List ℤ → Result Counts Refusal
+abbrev pub counts_of : List ℤ → Result Sizes Refusal
 counts_of xs =
     and_then (count_at xs 0) (λ n. and_then (count_at xs 1) (λ p. and_then (count_at xs 2) (λ m. and_then (count_at xs 3) (λ k.
     and_then (counts_answer n p m k) (λ _. Ok (record { n = n; p = p; m = m; k = k }))))))
 
--- counts in limits, one by one
-pub record Small (C : Counts) : Type 0 where
-  pub n : C.n ≤ 6
-  pub p : C.p ≤ 4
-  pub m : C.m ≤ 16
-  pub k : C.k ≤ 8
-
-abbrev pub row_length : Counts → ℕ
-row_length C = C.n + C.p + 1
-
-abbrev pub context_row_length : Counts → ℕ
-context_row_length C = C.p + 1
-
 -- how many numbers stand before the context rows: the fuel and the rows
-abbrev pub before_context : Counts → ℕ
+abbrev pub before_context : Sizes → ℕ
 before_context C = 1 + C.m * row_length C
 
 -- how many numbers follow the counts
-abbrev pub total : Counts → ℕ
+abbrev pub total : Sizes → ℕ
 total C = before_context C + C.k * context_row_length C
 
 -- so many rows of the same width, one after another
@@ -97,13 +84,13 @@ pub record Meant : Type 0 where
   pub fuel : ℤ
 
 -- the numbers after the counts are the fuel, the rows and the context rows
-abbrev pub rows_in : Counts → List ℤ → List (List ℤ)
+abbrev pub rows_in : Sizes → List ℤ → List (List ℤ)
 rows_in C xs = rows_of C.m (row_length C) (drop 1 xs)
 
-abbrev pub context_rows_in : Counts → List ℤ → List (List ℤ)
+abbrev pub context_rows_in : Sizes → List ℤ → List (List ℤ)
 context_rows_in C xs = rows_of C.k (context_row_length C) (drop (before_context C) xs)
 
-abbrev pub system_answer : Counts → List ℤ → Result System Refusal
+abbrev pub system_answer : Sizes → List ℤ → Result System Refusal
 system_answer C xs = and_then (new_answer C.n C.p) (λ S. and_then (enter_all (rows_in C xs) S) (confine_all (context_rows_in C xs)))
 
 -- whether no word is left
@@ -111,7 +98,7 @@ abbrev pub is_end : List ℕ → Bool
 is_end text = length (after_blanks text) == 0
 
 -- what follows the counts: so many numbers and no further word; the first number is the fuel
-abbrev pub body_answer : Counts → List ℕ → Result Meant Refusal
+abbrev pub body_answer : Sizes → List ℕ → Result Meant Refusal
 body_answer C text =
     and_then (first_numbers (total C) text) (λ t.
     cond (is_end t.rest) (and_then (system_answer C t.values) (λ S. Ok (record { system = S; fuel = slice_index_or t.values 0 (pos 0) }))) (Err ListingRefused))

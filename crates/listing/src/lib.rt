@@ -1,6 +1,7 @@
 //! Listings: a system and its fuel as text, and the answer as text.
 #![tactic(auto)]
 
+mod body;
 mod counts;
 mod numbers;
 pub mod read;

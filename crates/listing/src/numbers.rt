@@ -23,9 +23,9 @@ pub(crate) fn first_numbers<'a>(text: &'a [u8], places: &mut [i64]) -> Result<&'
     ensures answer { first_numbers (length places.old) text.now ≡ reached places.new result }
 {
     let mut rest = text;
-    for i in 0..places.len() {
+    for place in places.iter_mut() {
         let (x, after) = next_number(rest)?;
-        places[i] = x;
+        *place = x;
         rest = after;
     }
     Ok(rest)

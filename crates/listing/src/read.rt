@@ -1,12 +1,14 @@
 //! Reading a listing.
-ghost use Rattle.std.specs.Prelude.{◌≡◌, ◌*◌, ◌≤◌, length};
-ghost use Rattle.source.specs.RowSources.{meaning_of, meant};
-ghost use Rattle.listing.specs.Listings.{Small, arrived, body_answer, confine_all, context_rows_in, enter_all, is_end, is_short, read_answer, rows_in, rows_of, system_answer, total, understood};
+ghost use Rattle.std.specs.Prelude.{◌≡◌, length};
+ghost use Rattle.source.specs.Counted.{sizes_of};
+ghost use Rattle.listing.specs.Listings.{body_answer, is_end, is_short, read_answer, total, understood};
 
-use crate::counts::Counts;
+use crate::body::Body;
+use crate::counts::{counts_of, total};
 use crate::numbers::first_numbers;
 use crate::word::after_blanks;
 use base::refusal::Refusal;
+use source::counts::Counts;
 use source::rows::RowSource;
 
 /// The longest text of a listing, in bytes.
@@ -26,7 +28,7 @@ pub struct Listing {
 fn is_end(text: &[u8]) -> bool
     ensures value { result ≡ is_end text.now }
 {
-    after_blanks(text).len() == 0
+    after_blanks(text).is_empty()
 }
 
 /// Whether a listing may be so long.
@@ -36,100 +38,29 @@ fn is_short(text: &[u8]) -> bool
     text.len() <= LONGEST
 }
 
-/// Enters rows that stand one after another.
-fn enter_each(
-    source: &mut RowSource,
-    count: usize,
-    width: usize,
-    numbers: &[i64],
-) -> Result<(), Refusal>
-    requires { count * width ≤ length numbers.now }
-    ensures answer { arrived (meaning_of source.new) result ≡ enter_all (rows_of count width numbers.now) (meaning_of source.old) }
-{
-    let mut left = numbers;
-    for _ in 0..count {
-        let (row, after) = left.split_at(width);
-        source.enter(row)?;
-        left = after;
-    }
-    Ok(())
-}
-
-/// Adds context rows that stand one after another.
-fn confine_each(
-    source: &mut RowSource,
-    count: usize,
-    width: usize,
-    numbers: &[i64],
-) -> Result<(), Refusal>
-    requires { count * width ≤ length numbers.now }
-    ensures answer { arrived (meaning_of source.new) result ≡ confine_all (rows_of count width numbers.now) (meaning_of source.old) }
-{
-    let mut left = numbers;
-    for _ in 0..count {
-        let (row, after) = left.split_at(width);
-        source.confine(row)?;
-        left = after;
-    }
-    Ok(())
-}
-
-/// Enters the rows, which stand after the fuel.
-fn enter_rows(source: &mut RowSource, counts: Counts, numbers: &[i64]) -> Result<(), Refusal>
-    requires small { Small counts }
-    requires full { length numbers.now ≡ total counts }
-    ensures answer { arrived (meaning_of source.new) result ≡ enter_all (rows_in counts numbers.now) (meaning_of source.old) }
-{
-    let (_, rows) = numbers.split_at(1);
-    enter_each(source, counts.m, counts.row_length(), rows)
-}
-
-/// Adds the context rows, which stand last.
-fn confine_rows(source: &mut RowSource, counts: Counts, numbers: &[i64]) -> Result<(), Refusal>
-    requires small { Small counts }
-    requires full { length numbers.now ≡ total counts }
-    ensures answer { arrived (meaning_of source.new) result ≡ confine_all (context_rows_in counts numbers.now) (meaning_of source.old) }
-{
-    let (_, rows) = numbers.split_at(counts.before_context());
-    confine_each(source, counts.k, counts.context_row_length(), rows)
-}
-
-/// The system of the numbers that follow the counts.
-fn system(counts: Counts, numbers: &[i64]) -> Result<RowSource, Refusal>
-    requires small { Small counts }
-    requires full { length numbers.now ≡ total counts }
-    ensures answer { meant result ≡ system_answer counts numbers.now }
-{
-    let mut source = RowSource::new(counts.n, counts.p)?;
-    enter_rows(&mut source, counts, numbers)?;
-    confine_rows(&mut source, counts, numbers)?;
-    Ok(source)
-}
-
 /// Reads what follows the counts, by way of as many places as there are numbers.
 fn read_numbers(counts: Counts, text: &[u8], numbers: &mut [i64]) -> Result<Listing, Refusal>
-    requires small { Small counts }
-    requires full { length numbers.old ≡ total counts }
-    ensures answer { understood result ≡ body_answer counts text.now }
+    requires { length numbers.old ≡ total (sizes_of counts) }
+    ensures answer { understood result ≡ body_answer (sizes_of counts) text.now }
 {
     let rest = first_numbers(text, numbers)?;
     if !is_end(rest) {
         return Err(Refusal::Listing);
     }
-    let source = system(counts, numbers)?;
+    let body = Body { counts, numbers };
+    let source = body.system()?;
     Ok(Listing {
         source,
-        fuel: numbers[0],
+        fuel: body.fuel(),
     })
 }
 
 /// Reads what follows the counts.
 fn read_body(counts: Counts, text: &[u8]) -> Result<Listing, Refusal>
-    requires { Small counts }
-    ensures answer { understood result ≡ body_answer counts text.now }
+    ensures answer { understood result ≡ body_answer (sizes_of counts) text.now }
 {
     let mut numbers = [0; NUMBERS];
-    let total = counts.total();
+    let total = total(counts);
     read_numbers(counts, text, &mut numbers[0..total])
 }
 
@@ -139,7 +70,7 @@ pub fn read(text: &[u8]) -> Result<Listing, Refusal>
 {
     let mut four = [0; 4];
     let rest = first_numbers(text, &mut four)?;
-    let counts = Counts::of(&four)?;
+    let counts = counts_of(&four)?;
     if !is_short(text) {
         return Err(Refusal::Listing);
     }

@@ -53,7 +53,7 @@ fn of_unknowns(forms: &[NodeForm; 6], unknowns: u8) -> &[NodeForm]
     ensures value { result.now ≡ take unknowns forms.now }
 {
     if unknowns < 6 {
-        &forms[0..unknowns as usize]
+        &forms[..usize::from(unknowns)]
     } else {
         forms
     }

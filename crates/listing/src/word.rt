@@ -1,6 +1,7 @@
 //! Words of a text, and the numbers that they spell.
-ghost use Rattle.std.specs.Prelude.{◌≡◌, ◌≤◌, ◌&&◌, length, pos, neg_ℤ, IfSome, nat_le};
-ghost use Rattle.listing.specs.Words.{is_blank, after_blanks, word_length, first_word, after_word, digit_of, natural_of, number_of};
+ghost use Rattle.std.specs.Prelude.{◌≡◌, ◌≤◌, ◌&&◌, length, pos, neg_ℤ, IfSome, nat_le, not};
+ghost use Rattle.std.specs.List.{prefix_len};
+ghost use Rattle.listing.specs.Words.{is_blank, after_blanks, first_word, after_word, digit_of, natural_of, number_of};
 
 /// A number has at most so many digits.
 pub const MAX_DIGITS: usize = 9;
@@ -12,29 +13,28 @@ fn is_blank(b: u8) -> bool
     b == b' ' || b == b'\t' || b == b'\n' || b == b'\r'
 }
 
+/// How many blanks the text begins with.
+fn blank_length(text: &[u8]) -> usize
+    ensures value { result ≡ prefix_len is_blank text.now }
+    ensures within { result ≤ length text.now }
+{
+    text.iter().take_while(|b| is_blank(**b)).count()
+}
+
 /// The text without the blanks that it begins with.
 pub fn after_blanks(text: &[u8]) -> &[u8]
     ensures value { result.now ≡ after_blanks text.now }
 {
-    for i in 0..text.len() {
-        if !is_blank(text[i]) {
-            return &text[i..];
-        }
-    }
-    &text[text.len()..]
+    let (_, rest) = text.split_at(blank_length(text));
+    rest
 }
 
 /// How many bytes stand before the first blank.
 fn word_length(text: &[u8]) -> usize
-    ensures value { result ≡ word_length text.now }
+    ensures value { result ≡ prefix_len (λ b. not (is_blank b)) text.now }
     ensures within { result ≤ length text.now }
 {
-    for (i, b) in text.iter().enumerate() {
-        if is_blank(*b) {
-            return i;
-        }
-    }
-    text.len()
+    text.iter().take_while(|b| !is_blank(**b)).count()
 }
 
 /// The first word of the text, empty where there is none, and what stands after it.
@@ -51,10 +51,7 @@ fn digit(b: u8) -> Option<u32>
     ensures value { result ≡ digit_of b }
     ensures small { IfSome result (λ d. d ≤ 9) }
 {
-    match b {
-        b'0'..=b'9' => Some(u32::from(b - b'0')),
-        _ => None,
-    }
+    char::from(b).to_digit(10)
 }
 
 /// Whether a number may have so many digits.

@@ -1,8 +1,8 @@
 -- The numbers of a source as rows and forms, place by place and row by row.
-use Rattle.std.proofs.Common.{◌≡◌, ℕ, zero, suc, ◌+◌, ◌-◌, ◌<◌, ◌≤◌, List, [], ◌∷◌, ◌++◌, map, length, get_or, take, drop, set, ℤ, pos, Ok, Err, Result, sym, refl, ap, ◌∙◌, add-one, arith}
-use Rattle.std.proofs.lemmas.List.{at_drop_all, at_drop_more, drop_all, length-take-le, map_more, map_push, set-append_right}
+use Rattle.std.proofs.Common.{◌≡◌, ℕ, zero, suc, ◌+◌, ◌-◌, ◌^◌, ◌<◌, ◌≤◌, List, [], ◌∷◌, ◌++◌, map, length, get_or, take, drop, set, ℤ, pos, Ok, Err, Result, sym, refl, ap, ap₂, ◌∙◌, arith}
+use Rattle.std.proofs.lemmas.List.{at_drop_all, at_drop_more, drop-replicate, drop_all, length-take-le, map_more, map_push, set-append_right}
 use Rattle.base.specs.declared.refusal.Refusal.{Refusal}
-use Rattle.base.specs.Numbers.{at}
+use Rattle.base.specs.Numbers.{AllWithin, at}
 use Rattle.source.specs.Limits.{numbers_answer}
 use Rattle.tableau.specs.declared.table.Row.{Row}
 use Rattle.tableau.specs.declared.table.Table.{Table}
@@ -12,26 +12,20 @@ use Rattle.solver.specs.Tests.{unit_rows, zeros}
 use Rattle.solver.specs.Ties.{rest}
 use Rattle.solver.proofs.Starting.{length-units}
 
--- one number more
-fitted-suc : (k : ℕ) (row : List ℤ) → fitted (suc k) row ≡ fitted k row ++ at row k ∷ []
-fitted-suc zero [] = refl
-fitted-suc zero (x ∷ xs) = refl
-fitted-suc (suc k) [] = ap (λ l. pos 0 ∷ l) (fitted-suc k [])
-fitted-suc (suc k) (x ∷ xs) = ap (λ l. x ∷ l) (fitted-suc k xs)
+-- ---- numbers written over the first of so many zeros
+pub front-copied : (w n : ℕ) (xs copied : List ℤ) → copied ≡ take n xs → copied ++ drop n (zeros w) ≡ take n xs ++ zeros (w - n)
+front-copied w n xs copied e = ap (λ ys. ys ++ drop n (zeros w)) e ∙ ap (λ ys. take n xs ++ ys) (drop-replicate n w (pos 0))
 
-pub fitted-more : (k : ℕ) (row : List ℤ) → fitted (k + 1) row ≡ fitted k row ++ at row k ∷ []
-fitted-more k row = ap (λ n. fitted n row) (add-one k) ∙ fitted-suc k row
+within-zeros : (w : ℕ) → AllWithin (2 ^ 30) (zeros w)
+within-zeros zero k = omega arith
+within-zeros (suc w) zero = omega arith
+within-zeros (suc w) (suc k) = within-zeros w k
 
--- zeros, the first l of them written over
-over : (l w : ℕ) (xs : List ℤ) → l < length xs → set (take l xs ++ zeros (suc w)) l (at xs l) ≡ take (suc l) xs ++ zeros w
-over l w [] h = absurd (let no : ⊥ = omega arith in no)
-over zero w (x ∷ xs) h = refl
-over (suc l) w (x ∷ xs) h = ap (λ ys. x ∷ ys) (over l w xs (omega arith))
-
-pub over-more : (w l : ℕ) (xs all : List ℤ) → l < length xs → l < w → all ≡ take l xs ++ zeros (w - l) → set all l (at xs l) ≡ take (l + 1) xs ++ zeros (w - (l + 1))
-over-more w l xs all h k e =
-    let a : w - l ≡ suc (w - (l + 1)) = omega arith in
-    ap (λ ys. set ys l (at xs l)) (e ∙ ap (λ n. take l xs ++ zeros n) a) ∙ over l (w - (l + 1)) xs h ∙ ap (λ n. take n xs ++ zeros (w - (l + 1))) (sym (add-one l))
+pub within-front : (w n : ℕ) (xs : List ℤ) → AllWithin 1000000 xs → AllWithin (2 ^ 30) (take n xs ++ zeros w)
+within-front w zero xs small k = within-zeros w k
+within-front w (suc n) [] small k = within-zeros w k
+within-front w (suc n) (x ∷ xs) small zero = let h = small 0 in omega (arith, h)
+within-front w (suc n) (x ∷ xs) small (suc k) = within-front w n xs (λ j. small (suc j)) k
 
 last : (n : ℕ) (v : ℤ) → set (zeros (suc n)) n v ≡ zeros n ++ v ∷ []
 last zero v = refl
@@ -75,3 +69,10 @@ unit-parts t n e k u = (
   ap (λ m. take m t.rows) (u ∙ sym k) ∙ e,
   let l = ap length e ∙ length-units 0 n in drop_all t.unknowns (in_use t) (omega arith),
 )
+
+-- ---- numbers asked for one by one
+pub fitted-asked : (w : ℕ) (numbers row : List ℤ) → w ≤ length numbers → ((j : ℕ) → j < w → at numbers j ≡ at row j) → take w numbers ≡ fitted w row
+fitted-asked zero numbers row h asked = refl
+fitted-asked (suc w) [] row h asked = absurd (let no : ⊥ = omega arith in no)
+fitted-asked (suc w) (y ∷ ys) [] h asked = ap₂ ◌∷◌ (asked 0 (omega arith)) (fitted-asked w ys [] (omega arith) (λ j l. asked (suc j) (omega arith)))
+fitted-asked (suc w) (y ∷ ys) (x ∷ xs) h asked = ap₂ ◌∷◌ (asked 0 (omega arith)) (fitted-asked w ys xs (omega arith) (λ j l. asked (suc j) (omega arith)))

@@ -5,7 +5,6 @@ use Rattle.tableau.specs.declared.table.Row.{Row}
 use Rattle.tableau.specs.Tables.{Ready}
 use Rattle.solver.specs.declared.context.Context.{Context}
 use Rattle.solver.specs.declared.count.Count.{Count}
-use Rattle.solver.specs.declared.read.Counts.{Counts}
 use Rattle.solver.specs.declared.settle.End.{End}
 use Rattle.solver.specs.declared.settle.End.TheVariants.{Leaf, None, Split}
 use Rattle.solver.specs.declared.sign.Scan.{Scan}
@@ -60,14 +59,6 @@ abbrev pub EndBelow : ℕ → End → Type 0
 EndBelow n Leaf = Unit {0}
 EndBelow n None = Unit {0}
 EndBelow n (Split h) = h < n
-
--- counts within the limits of a system
-pub record CountsFit (c : Counts) : Type 0 where
-  pub some : 1 ≤ c.n
-  pub unknowns : c.n ≤ 6
-  pub parameters : c.p ≤ 4
-  pub rows : c.m ≤ 16
-  pub context : c.k ≤ 8
 
 -- the row's form names no parameter, as in a test
 abbrev pub ConstForm : Row → Type 0

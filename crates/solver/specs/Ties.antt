@@ -5,6 +5,7 @@ use Rattle.base.specs.declared.refusal.Place.TheVariants.{Node}
 use Rattle.base.specs.declared.refusal.Refusal.{Refusal}
 use Rattle.base.specs.declared.refusal.Refusal.TheVariants.{FuelSpent, WorkFull}
 use Rattle.base.specs.Numbers.{at, quot_by}
+use Rattle.source.specs.Counted.{Sizes}
 use Rattle.source.specs.Limits.{counts_answer, numbers_answer}
 use Rattle.source.specs.Systems.{System}
 use Rattle.tableau.specs.declared.table.Row.{Row}
@@ -13,7 +14,6 @@ use Rattle.tableau.specs.Tables.{in_use, no_row, top}
 use Rattle.tree.specs.declared.node.Node.{Node as TreeNode}
 use Rattle.solver.specs.declared.context.Context.{Context}
 use Rattle.solver.specs.declared.count.Count.{Count}
-use Rattle.solver.specs.declared.read.Counts.{Counts}
 use Rattle.solver.specs.declared.sign.Scan.{Scan as Found}
 use Rattle.solver.specs.declared.sign.Scan.TheVariants.{Negative, Unsure, Clear}
 use Rattle.solver.specs.declared.state.State.{State}
@@ -118,10 +118,10 @@ abbrev pub solution_of : Row → List ℤ
 solution_of r = map (quot_by r.div) r.form
 
 -- ---- what is read of a system
-abbrev pub counts_of : System → Counts
+abbrev pub counts_of : System → Sizes
 counts_of S = record { n = S.n; p = S.p; m = length S.rows; k = length S.context }
 
-abbrev pub counts_read : System → Result Counts Refusal
+abbrev pub counts_read : System → Result Sizes Refusal
 counts_read S = and_then (counts_answer S.n S.p (length S.rows) (length S.context)) (Ok (counts_of S))
 
 -- row i, if its numbers are within the limits

@@ -3,9 +3,6 @@ use Rattle.std.proofs.Common.{◌≡◌, ℕ, zero, suc, ◌+◌, ◌<◌, ◌�
 use Rattle.std.proofs.lemmas.List.{get_or-take, get_or_past, length-map, length-take, length-take-le, map_push, take_more_set}
 use Rattle.source.specs.Systems.{entry}
 
-pub length-kept : (w m : ℕ) (xs : List (List ℤ)) → m ≤ length xs → length (map (take w) (take m xs)) ≡ m
-length-kept w m xs h = length-map (take m xs) (take w) ∙ length-take-le m xs h
-
 -- one row more
 pub kept_more : (w m : ℕ) (xs : List (List ℤ)) (y row : List ℤ) → m < length xs → take w y ≡ row → map (take w) (take (m + 1) (set xs m y)) ≡ map (take w) (take m xs) ++ row ∷ []
 kept_more w m xs y row h e =

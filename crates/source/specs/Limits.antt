@@ -1,5 +1,6 @@
 -- The limits of a system, and what is refused for them.
-use Rattle.std.specs.Prelude.{ℕ, ◌+◌, Bool, cond, ◌&&◌, List, [], ◌∷◌, length, ℤ, Some, None, Ok, Err, Option, Result, ◌==◌, nat_le, nat_lt, unsigned_abs}
+use Rattle.std.specs.Prelude.{ℕ, Bool, not, cond, ◌&&◌, List, length, ℤ, Some, None, Ok, Err, Option, Result, ◌==◌, nat_le, nat_lt, unsigned_abs}
+use Rattle.std.specs.List.{position_from}
 use Rattle.base.specs.declared.refusal.Refusal.{Refusal}
 use Rattle.base.specs.declared.refusal.Refusal.TheVariants.{Counts, Number, RowShape}
 
@@ -16,8 +17,7 @@ in_limits x = nat_le (unsigned_abs x) 1000000
 
 -- the place of the first number that does not, counted from j
 abbrev pub first_outside : ℕ → List ℤ → Option ℕ
-first_outside j [] = None
-first_outside j (x ∷ xs) = cond (in_limits x) (first_outside (j + 1) xs) (Some j)
+first_outside j row = position_from (λ x. not (in_limits x)) j row
 
 abbrev pub refused_at : ℕ → Option ℕ → Result (Unit {0}) Refusal
 refused_at i None = Ok tt

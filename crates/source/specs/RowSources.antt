@@ -1,20 +1,22 @@
 -- What a row source means, and what making one answers.
-use Rattle.std.specs.Prelude.{ℕ, ◌+◌, cond, [], map, take, Ok, Err, Result}
+use Rattle.std.specs.Prelude.{ℕ, cond, List, [], ◌∷◌, ◌++◌, map, take, ℤ, is_ok, Ok, Err, Result}
 use Rattle.base.specs.declared.refusal.Refusal.{Refusal}
 use Rattle.base.specs.declared.refusal.Refusal.TheVariants.{Counts}
 use Rattle.source.specs.Systems.{System}
 use Rattle.source.specs.Limits.{counts_fit}
+use Rattle.source.specs.declared.rows.table.Rows.{Rows}
 use Rattle.source.specs.declared.rows.RowSource.{RowSource}
 
 -- the rows given so far, each as wide as it was given
+abbrev pub given : {W M : ℕ} → Rows W M → List (List ℤ)
+given r = map (take r.width) (take r.count r.numbers)
+
+-- a row joins the others if it is not refused
+abbrev pub joined : List (List ℤ) → List ℤ → Result (Unit {0}) Refusal → List (List ℤ)
+joined rows row answer = cond (is_ok answer) (rows ++ row ∷ []) rows
+
 abbrev pub meaning_of : RowSource → System
-meaning_of s =
-    record {
-      n = s.n;
-      p = s.p;
-      rows = map (take (s.n + s.p + 1)) (take s.row_count s.rows);
-      context = map (take (s.p + 1)) (take s.context_count s.context);
-    }
+meaning_of s = record { n = s.n; p = s.p; rows = given s.rows; context = given s.context }
 
 abbrev pub meant : Result RowSource Refusal → Result System Refusal
 meant (Ok s) = Ok (meaning_of s)

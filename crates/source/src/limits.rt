@@ -43,12 +43,7 @@ pub fn in_limits(x: i64) -> bool
 fn first_outside(numbers: &[i64]) -> Option<usize>
     ensures value { result ≡ first_outside 0 numbers.now }
 {
-    for (column, x) in numbers.iter().enumerate() {
-        if !in_limits(*x) {
-            return Some(column);
-        }
-    }
-    None
+    numbers.iter().position(|x| !in_limits(*x))
 }
 
 /// Refuses numbers that make no row; `row` is the row's place in the system. Which numbers make a

@@ -4,9 +4,8 @@ ghost use Rattle.source.specs.Enters.{enter_answer, entered, confine_answer, con
 ghost use Rattle.source.specs.RowSources.{meaning_of, meant, new_answer};
 
 use super::RowSource;
-use crate::limits::{
-    MAX_CONTEXT_ROW_LENGTH, MAX_CONTEXT_ROWS, MAX_ROW_LENGTH, MAX_ROWS, check_counts, check_row,
-};
+use super::table::Rows;
+use crate::limits::check_counts;
 use crate::source::Source;
 use base::refusal::Refusal;
 
@@ -19,10 +18,8 @@ impl RowSource {
         Ok(RowSource {
             n,
             p,
-            row_count: 0,
-            context_count: 0,
-            rows: [[0; MAX_ROW_LENGTH]; MAX_ROWS],
-            context: [[0; MAX_CONTEXT_ROW_LENGTH]; MAX_CONTEXT_ROWS],
+            rows: Rows::new(n + p + 1),
+            context: Rows::new(p + 1),
         })
     }
 
@@ -31,13 +28,7 @@ impl RowSource {
         ensures answer { result ≡ enter_answer (meaning_of self.old) row.now }
         ensures left { meaning_of self.new ≡ entered (meaning_of self.old) row.now }
     {
-        let count = self.row_count;
-        check_row(row, self.n + self.p + 1, count, MAX_ROWS)?;
-        let mut numbers = [0; MAX_ROW_LENGTH];
-        copy_front(&mut numbers, row);
-        self.rows[count] = numbers;
-        self.row_count = count + 1;
-        Ok(())
+        self.rows.give(row)
     }
 
     /// Adds a context row: a coefficient for each parameter, then the constant.
@@ -45,13 +36,7 @@ impl RowSource {
         ensures answer { result ≡ confine_answer (meaning_of self.old) row.now }
         ensures left { meaning_of self.new ≡ confined (meaning_of self.old) row.now }
     {
-        let count = self.context_count;
-        check_row(row, self.p + 1, count, MAX_CONTEXT_ROWS)?;
-        let mut numbers = [0; MAX_CONTEXT_ROW_LENGTH];
-        copy_front(&mut numbers, row);
-        self.context[count] = numbers;
-        self.context_count = count + 1;
-        Ok(())
+        self.context.give(row)
     }
 }
 
@@ -75,26 +60,18 @@ impl Source for RowSource {
     }
 
     fn rows(&self) -> usize {
-        self.row_count
+        self.rows.len()
     }
 
     fn context_rows(&self) -> usize {
-        self.context_count
+        self.context.len()
     }
 
     fn number(&self, row: usize, column: usize) -> i64 {
-        if row < self.row_count && column < self.n + self.p + 1 {
-            self.rows[row][column]
-        } else {
-            0
-        }
+        self.rows.number(row, column)
     }
 
     fn context_number(&self, row: usize, column: usize) -> i64 {
-        if row < self.context_count && column < self.p + 1 {
-            self.context[row][column]
-        } else {
-            0
-        }
+        self.context.number(row, column)
     }
 }

@@ -5,33 +5,33 @@ use Rattle.listing.specs.Listings.{first_numbers, reached}
 use Rattle.listing.proofs.NumberSteps.{then, then-none, place-filled, no_number, all-filled}
 use Rattle.listing.proofs.numbers.first_numbers.Goals as goal
 
-pub loop-i-init : goal.loop-i-init
-loop-i-init c =
+pub loop-place-init : goal.loop-place-init
+loop-place-init c =
     let n = length c.args.places.now in
     let all : n - 0 ≡ n = omega arith in
     ap (λ m. then [] (first_numbers m c.args.text.now)) all ∙ then-none (first_numbers n c.args.text.now)
 
-pub loop-i-preserved : goal.loop-i-preserved
-loop-i-preserved c =
+pub loop-place-preserved : goal.loop-place-preserved
+loop-place-preserved c =
     let n = length c.args.places.now in
-    let i = c.loop-i.i in
-    let places = c.loop-i.places in
+    let i = c.loop-place.place-index in
+    let places = c.loop-place.places in
     let x = c.in_ok-x.x in
     let f : SFits w64 x = search rules in
     let q = c.in_ok-x.ensures.answer in
     let is = to_z-of_z w64 x f in
-    sym (place-filled n i places c.loop-i.rest.now c.in_ok-x.after.now _ (omega arith) (omega arith) (q.0 ∙ ap Some (sym is)) q.1) ∙ c.loop-i.invariant
+    sym (place-filled n i places c.loop-place.rest.now c.in_ok-x.after.now _ (omega arith) (omega arith) (q.0 ∙ ap Some (sym is)) q.1) ∙ c.loop-place.invariant
 
 pub returns-in_err-x : goal.returns-in_err-x
 returns-in_err-x c =
     let n = length c.args.places.now in
-    let i = c.loop-i.i in
+    let i = c.loop-place.place-index in
     let q = c.in_err-x.ensures.answer in
     let p = err_from_is_err_and c.from_residual.result c.from_residual.ensures.1 in
-    let e = no_number n i c.loop-i.rest.now (take i c.loop-i.places) (omega arith) q.0 in
-    record { answer = (sym c.loop-i.invariant ∙ e) ∙ sym (ap (reached c.loop-i.places) p.1 ∙ ap Err (p.2 ∙ q.1)) }
+    let e = no_number n i c.loop-place.rest.now (take i c.loop-place.places) (omega arith) q.0 in
+    record { answer = (sym c.loop-place.invariant ∙ e) ∙ sym (ap (reached _) p.1 ∙ ap Err (p.2 ∙ q.1)) }
 
 pub returns : goal.returns
 returns c =
     let n = length c.args.places.now in
-    record { answer = sym c.loop-i.invariant ∙ all-filled n c.loop-i.i c.loop-i.places c.loop-i.rest.now (omega arith) (omega arith) }
+    record { answer = sym c.loop-place.invariant ∙ all-filled n c.loop-place.place-index c.loop-place.places c.loop-place.rest.now (omega arith) (omega arith) }

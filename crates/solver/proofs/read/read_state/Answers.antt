@@ -1,4 +1,5 @@
 use Rattle.std.proofs.Common.{◌+◌, map, length, Ok, sym, refl, ap, ◌∙◌, subst, rules}
+use Rattle.source.specs.Counted.{counted, sizes_of}
 use Rattle.source.specs.Limits.{counts_answer}
 use Rattle.solver.specs.Solves.{and_then, fitted, numbers_fit, rows_of}
 use Rattle.solver.specs.Ties.{ContextRead, TableRead, counts_of}
@@ -10,7 +11,7 @@ returns g c =
     let S = g.S.Source.meaning c.args.source.now in
     let m = length S.rows in
     let rest = numbers_fit m (map (fitted (S.p + 1)) S.context) in
-    let v = then_ok (counts_answer S.n S.p m (length S.context)) (counts_of S) c.in_ok-c.c (sym c.in_ok-c.was ∙ c.counts_of.ensures.answer) in
+    let v = then_ok (counts_answer S.n S.p m (length S.context)) (counts_of S) (sizes_of c.in_ok-c.c) (ap counted (sym c.in_ok-c.was) ∙ c.counts_of.ensures.answer) in
     let t = subst (λ x. TableRead x.n x.p S.rows (Ok c.in_ok-table.table)) v.1 c.in_ok-table.ensures.answer in
     let x = subst (λ x. ContextRead x.m x.p S.context (Ok c.in_ok-context.context)) v.1 c.in_ok-context.ensures.answer in
     record {
