@@ -1,5 +1,6 @@
 -- Cuts, and the new parameters that they may need.
-use Rattle.std.specs.Prelude.{ℕ, zero, suc, ◌+◌, ◌^◌, Bool, true, false, cond, ◌&&◌, List, [], ◌∷◌, map, take, ℤ, pos, negsuc, ◌+ℤ◌, ◌-ℤ◌, neg_ℤ, ◌≤ℤ◌, ◌<ℤ◌, Some, None, Option, slice_set}
+use Rattle.std.specs.Prelude.{ℕ, zero, suc, ◌+◌, ◌^◌, Bool, true, false, cond, List, [], ◌∷◌, map, take, ℤ, pos, negsuc, ◌+ℤ◌, ◌-ℤ◌, neg_ℤ, ◌≤ℤ◌, ◌<ℤ◌, Some, None, Option, slice_set}
+use Rattle.std.specs.List.{list_all}
 use Rattle.base.specs.Numbers.{at, mod_by}
 use Rattle.tableau.specs.declared.table.Row.{Row}
 use Rattle.tableau.specs.declared.cut.Cut.{Cut}
@@ -12,8 +13,7 @@ is_zero (negsuc n) = false
 
 -- d divides each number
 abbrev pub whole_by : ℤ → List ℤ → Bool
-whole_by d [] = true
-whole_by d (x ∷ xs) = is_zero (mod_by d x) && whole_by d xs
+whole_by d xs = list_all (λ x. is_zero (mod_by d x)) xs
 
 abbrev pub whole : Row → Bool
 whole r = whole_by r.div r.form
@@ -29,8 +29,7 @@ cut_of r = record { coefs = map (mod_by r.div) r.coefs; form = map (mod_by r.div
 
 -- T names no parameter
 abbrev pub none_of : List ℤ → Bool
-none_of [] = true
-none_of (x ∷ xs) = is_zero x && none_of xs
+none_of xs = list_all is_zero xs
 
 abbrev pub is_constant : Cut → Bool
 is_constant c = none_of (take 9 c.form)

@@ -25,12 +25,7 @@ pub fn whole(row: &Row) -> bool
     ensures { result ≡ whole row.now }
 {
     let by = Divisor { value: row.div };
-    for x in row.form.iter() {
-        if modulo(by, *x) != 0 {
-            return false;
-        }
-    }
-    true
+    row.form.iter().all(|x| modulo(by, *x) == 0)
 }
 
 /// Inner: the first of the unknowns' rows whose form has a number that its divisor does not divide.
@@ -39,12 +34,7 @@ pub fn first_fraction(t: &Table) -> Option<usize>
     ensures value { result ≡ first_fraction 0 (top t.now) }
     ensures inside { IfSome result (λ h. h < t.now.unknowns) }
 {
-    for h in 0..t.unknowns {
-        if !whole(&t.rows[h]) {
-            return Some(h);
-        }
-    }
-    None
+    t.rows[..t.unknowns].iter().position(|row| !whole(row))
 }
 
 /// Inner: r and T of the cut from a row.
@@ -71,12 +61,7 @@ impl Cut {
     pub fn is_constant(&self) -> bool
         ensures { result ≡ is_constant self.now }
     {
-        for k in 0..CONSTANT {
-            if self.form[k] != 0 {
-                return false;
-            }
-        }
-        true
+        self.form[..CONSTANT].iter().all(|x| *x == 0)
     }
 
     /// Inner: the cut row, (r - T) / d, or with a new parameter q at a place (r - T + d * q) / d.
