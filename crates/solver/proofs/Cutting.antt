@@ -5,10 +5,9 @@ use Rattle.base.specs.declared.refusal.Met.{Met}
 use Rattle.base.specs.declared.refusal.Place.{Place}
 use Rattle.base.specs.declared.refusal.Refusal.{Refusal}
 use Rattle.base.specs.declared.refusal.Refusal.TheVariants.{FuelSpent, Cuts, NewParameters}
-use Rattle.tableau.specs.declared.cut.Cut.{Cut}
 use Rattle.tableau.specs.declared.table.Row.{Row}
 use Rattle.tableau.specs.declared.table.Table.{Table}
-use Rattle.tableau.specs.Cuts.{cut_of, cut_row, is_constant}
+use Rattle.tableau.specs.Cuts.{CutNumbers, cut_of, cut_row, is_constant}
 use Rattle.base.specs.declared.refusal.Place.TheVariants.{Test}
 use Rattle.solver.specs.Bounds.{ConstForm}
 use Rattle.solver.proofs.Constants.{const-cut}
@@ -51,7 +50,7 @@ bar-is {A} why place fuel room c = go (ltb c.steps fuel)
     go true = refl
     go false = refl
 
-module _ (place : Place) (again : Work → Run Tree) (s : Work) (x : Cut) (fuel room : ℕ) (c : Count) where
+module _ (place : Place) (again : Work → Run Tree) (s : Work) (x : CutNumbers) (fuel room : ℕ) (c : Count) where
   pub cut-many : s.cuts ≡ 24 → cut place again s x (limits fuel room) c ≡ Err (cond (ltb c.steps fuel) (Cuts (met_at place c)) (FuelSpent (met_at place c)))
   unfolding cut
   cut-many h = ap (λ b. cond b (bar Cuts place) (cond (is_constant x) (cut_plain place again s x) (cond (eqb s.made 5) (bar NewParameters place) (cut_new place again s x))) (limits fuel room) c) (eq-eqb s.cuts 24 h) ∙ bar-is Cuts place fuel room c
@@ -88,7 +87,7 @@ unfolding return
 new_then d T (Ok v) l = refl
 new_then d T (Err e) l = refl
 
-module _ (again : Work → Run Tree) (s : Work) (x : Cut) (fuel room : ℕ) (c : Count) (few : s.cuts < 24) (k : is_constant x ≡ false) where
+module _ (again : Work → Run Tree) (s : Work) (x : CutNumbers) (fuel room : ℕ) (c : Count) (few : s.cuts < 24) (k : is_constant x ≡ false) where
   named : cut Node again s x (limits fuel room) c ≡ cond (eqb s.made 5) (bar NewParameters Node) (cut_new Node again s x) (limits fuel room) c
   unfolding cut
   named =
@@ -125,7 +124,7 @@ module _ (again : Work → Run Tree) (s : Work) (x : Cut) (fuel room : ℕ) (c :
       ∙ ticked-ext (noted_in room d) ((ranged Node (within (lower x (4 + s.made)) && within (upper x (4 + s.made))) >> last-part) (limits fuel room)) rows_join joins)
 
 -- ---- the same at a state, with what the code found on the way
-module _ (again : Work → Run Tree) (x : State) (k : Cut) (fuel : ℕ) (before : List TreeNode) (c : Count) (few : x.cuts < 24) (named : is_constant k ≡ false) (new : x.context.made < 5) where
+module _ (again : Work → Run Tree) (x : State) (k : CutNumbers) (fuel : ℕ) (before : List TreeNode) (c : Count) (few : x.cuts < 24) (named : is_constant k ≡ false) (new : x.context.made < 5) where
   l : Limits
   l = limits fuel (length before)
 

@@ -5,6 +5,7 @@ pub mod Constants
 pub mod Testing
 pub mod Cutting
 pub mod Signing
+pub mod Arrays
 pub mod Writing
 pub mod Settling
 pub mod Planting

@@ -1,5 +1,5 @@
 -- The sign of a form, and the signs of rows in order.
-use Rattle.std.proofs.Common.{◌≡◌, ℕ, ◌+◌, Bool, true, false, cond, ◌&&◌, List, [], ◌∷◌, get_or, ℤ, pos, Ok, Err, sym, refl, ap, ◌∙◌, arith}
+use Rattle.std.proofs.Common.{◌≡◌, ℕ, ◌+◌, ◌≤◌, Bool, true, false, cond, ◌&&◌, List, [], ◌∷◌, get_or, ℤ, pos, Ok, Err, sym, refl, ap, ◌∙◌, arith}
 use lib.Signed.{lt_z}
 use Rattle.base.specs.declared.refusal.Refusal.{Refusal}
 use Rattle.base.specs.Forms.{opposite}
@@ -126,10 +126,10 @@ pub scan-end : (sign : List ℤ → Run Sign) (l : Limits) (c : Count) → scan 
 unfolding scan return
 scan-end sign l c = refl
 
-pub below_more : (f : Found) (h : ℕ) → ScanBelow h f → ScanBelow (h + 1) f
-below_more Clear h b = tt
-below_more (NegativeAt k) h b = omega arith
-below_more (Unsure k) h b = omega arith
+pub below-up : (f : Found) (m n : ℕ) → m ≤ n → ScanBelow m f → ScanBelow n f
+below-up Clear m n h b = tt
+below-up (NegativeAt k) m n h b = omega arith
+below-up (Unsure k) m n h b = omega arith
 
 pub below-unsure : (f : Found) (h : ℕ) → ScanBelow h f → ScanBelow (h + 1) (first_unsure f h)
 below-unsure Clear h b = omega arith

@@ -1,6 +1,6 @@
 -- The moves on a table, as the rules have them.
 use Rattle.std.proofs.Common.{◌≡◌, ℕ, suc, ◌+◌, ◌<◌, ◌≤◌, Bool, true, false, cond, ltb, List, [], ◌∷◌, ◌++◌, map, length, get_or, take, drop, ℤ, Some, None, Ok, Err, Option, Result, sym, refl, ap, ◌∙◌, arith}
-use Rattle.std.proofs.lemmas.List.{at_drop_all, at_drop_more, drop-map, get_or-take, length-take, length-take-le, map-append, take-append-drop, take-map, take-take}
+use Rattle.std.proofs.lemmas.List.{at_drop_more, drop-map, get_or-take, length-take, map-append, take-append-drop, take-map, take-take}
 use Rattle.base.specs.declared.refusal.Place.{Place}
 use Rattle.base.specs.declared.refusal.Refusal.{Refusal}
 use Rattle.base.specs.declared.refusal.Refusal.TheVariants.{FuelSpent, Range}
@@ -32,12 +32,9 @@ module _ (f : Row → Row) (t u : Table) (h : t.unknowns ≤ t.count) (count : u
   rest-mapped = ap (λ n. drop n (in_use u)) unknowns ∙ ap (drop t.unknowns) rows ∙ drop-map f t.unknowns (in_use t)
 
 -- a search through the rows in use: row h comes next
-pub used-more : {Y : Type 0} (F : List Row → Y) (t : Table) (h : ℕ) → h < t.count → t.count ≤ length t.rows → F (drop h (in_use t)) ≡ F (get_or t.rows h no_row ∷ drop (h + 1) (in_use t))
-used-more F t h lt le =
-    at_drop_more F (in_use t) h no_row (omega (arith, length-take-le t.count t.rows le)) ∙ ap (λ r. F (r ∷ drop (h + 1) (in_use t))) (get_or-take t.count t.rows h no_row lt)
-
-pub used_all : {Y : Type 0} (F : List Row → Y) (t : Table) (h : ℕ) → t.count ≤ h → F (drop h (in_use t)) ≡ F []
-used_all F t h ge = at_drop_all F (in_use t) h (omega (arith, length-take t.count t.rows))
+pub used-more : {Y : Type 0} (F : List Row → Y) (t : Table) (h : ℕ) → h < length (in_use t) → F (drop h (in_use t)) ≡ F (get_or t.rows h no_row ∷ drop (h + 1) (in_use t))
+used-more F t h lt =
+    at_drop_more F (in_use t) h no_row lt ∙ ap (λ r. F (r ∷ drop (h + 1) (in_use t))) (get_or-take t.count t.rows h no_row (omega (arith, length-take t.count t.rows)))
 
 -- ---- a pivot
 -- the work with its rows pivoted

@@ -1,6 +1,6 @@
 -- Nodes written into the work table, one run of them after another.
 use Rattle.std.proofs.Common.{◌≡◌, ℕ, suc, ◌+◌, ◌-◌, ◌<◌, ◌≤◌, Bool, true, false, cond, ltb, List, [], ◌∷◌, ◌++◌, map, length, get_or, take, drop, set, replicate, ℤ, pos, Ok, Err, sym, refl, ap, ◌∙◌, subst, add-one, arith}
-use Rattle.std.proofs.lemmas.List.{append_assoc, append-nil, at_drop_all, at_drop_more, drop_all, drop_at, drop-drop, drop_more, get_or-take, length-append, length-drop, length-map, length-replicate, length-take, length-take-le, map_more, replicate_more, set_at, set_split, take_all, take-append-drop, take_at}
+use Rattle.std.proofs.lemmas.List.{append_assoc, append-nil, at_drop_all, at_drop_more, drop_all, drop_at, drop-drop, drop_more, length-append, length-drop, length-map, length-replicate, length-take-le, map_more, replicate_more, set_at, set_split, take_all, take-append-drop, take_at}
 use Rattle.std.proofs.lemmas.Bool.{ltb-true}
 use Rattle.base.specs.declared.refusal.Place.TheVariants.{Node}
 use Rattle.base.specs.declared.refusal.Refusal.{Refusal}
@@ -127,7 +127,7 @@ keeps-refused C Cs l c why e = write-refused (keeps Cs) l c why e
 
 -- the first k forms are written, from a table `a` to a table `b`, and what is left gives what all give
 pub record Kept (ctx : Context) (a : List TreeNode) (start : Count) (k : ℕ) (b : List TreeNode) (c : Count) : Type 0 where
-  pub inside : k ≤ length ctx.forms
+  pub inside : k ≤ length (in_force ctx)
   pub steps : c.steps ≡ start.steps
   pub nodes : c.nodes ≡ start.nodes + k
   pub room : start.nodes ≤ length a → c.nodes ≤ length a
@@ -140,17 +140,13 @@ kept-none ctx a start =
     record { inside = omega arith; steps = refl; nodes = omega arith; room = λ h. h; long = refl; wrote = wrote_none a start.nodes; left = λ fuel. refl }
 
 module _ (ctx : Context) (a : List TreeNode) (start : Count) (k : ℕ) (b : List TreeNode) (c : Count) (i : Kept ctx a start k b c) where
-  module _ (lt : k < ctx.count) (inside : k < length ctx.forms) where
-    here : k < length (in_force ctx)
-    here = let f = length-take ctx.count ctx.forms in omega arith
-
-    pub kept_more : (b' : List TreeNode) (d : Count) (form : List ℤ) → form ≡ get_or ctx.forms k [] → Ok d ≡ noted_in (length b) c → Wrote b c.nodes (Keep form ∷ []) b' → Kept ctx a start (k + 1) b' d
-    kept_more b' d form is e w =
+  module _ (here : k < length (in_force ctx)) where
+    pub kept_more : (b' : List TreeNode) (d : Count) (form : List ℤ) → form ≡ get_or (in_force ctx) k [] → Ok d ≡ noted_in (length b) c → Wrote b c.nodes (Keep form ∷ []) b' → Kept ctx a start (k + 1) b' d
+    kept_more b' d form same e w =
         let n = noted-from (length b) c d e in
         let more : d.nodes ≡ c.nodes + 1 = ap (λ x. x.nodes) n.1 ∙ sym (add-one c.nodes) in
-        let lk : length (map Keep (take k (in_force ctx))) ≡ k = length-map (take k (in_force ctx)) Keep ∙ length-take-le k (in_force ctx) (let h = here in omega arith) in
+        let lk : length (map Keep (take k (in_force ctx))) ≡ k = length-map (take k (in_force ctx)) Keep ∙ length-take-le k (in_force ctx) (omega arith) in
         let from : c.nodes ≡ start.nodes + length (map Keep (take k (in_force ctx))) = omega (arith, lk, i.nodes) in
-        let same : form ≡ get_or (in_force ctx) k [] = is ∙ sym (get_or-take ctx.count ctx.forms k [] lt) in
         let all : map Keep (take k (in_force ctx)) ++ Keep form ∷ [] ≡ map Keep (take (k + 1) (in_force ctx)) =
         ap (λ x. map Keep (take k (in_force ctx)) ++ Keep x ∷ []) same ∙ sym (map_more Keep (in_force ctx) k [] here)
         in
@@ -171,10 +167,7 @@ module _ (ctx : Context) (a : List TreeNode) (start : Count) (k : ℕ) (b : List
         sym (i.left fuel) ∙ at_drop_more (λ xs. keeps xs (limits fuel (length a)) c) (in_force ctx) k [] here
         ∙ keeps-refused (get_or (in_force ctx) k []) (drop (k + 1) (in_force ctx)) (limits fuel (length a)) c why (e ∙ ap (λ m. noted_in m c) i.long)
 
-  module _ (end : k ≡ ctx.count) where
-    all-length : length (in_force ctx) ≤ k
-    all-length = let f = length-take ctx.count ctx.forms in omega arith
-
+  module _ (all-length : length (in_force ctx) ≤ k) where
     pub kept-all : (fuel : ℕ) → keeps (in_force ctx) (limits fuel (length a)) start ≡ Ok (tt, c)
     kept-all fuel =
         sym (i.left fuel) ∙ at_drop_all (λ xs. keeps xs (limits fuel (length a)) c) (in_force ctx) k all-length

@@ -4,8 +4,7 @@ use Rattle.base.specs.declared.refusal.Place.TheVariants.{Node}
 use Rattle.base.specs.declared.refusal.Refusal.{Refusal}
 use Rattle.base.specs.declared.refusal.Refusal.TheVariants.{Depth, Range}
 use Rattle.base.specs.Numbers.{quot_by, within}
-use Rattle.tableau.specs.declared.cut.Cut.{Cut}
-use Rattle.tableau.specs.Cuts.{lower, upper}
+use Rattle.tableau.specs.Cuts.{CutNumbers, lower, upper}
 use Rattle.tableau.specs.declared.table.Table.{Table}
 use Rattle.tableau.specs.Tables.{no_row}
 use Rattle.tree.specs.declared.node.Node.{Node as TreeNode}
@@ -54,7 +53,7 @@ Noted before from ns after (Ok c) = (from.nodes ≤ length before → Wrote befo
 Noted before from ns after (Err e) = Unit {0}
 
 -- the node of a new parameter is written, and its two rows join the context; or the work table is full, or a row leaves the range
-abbrev pub NewMade : State → Cut → List TreeNode → Count → State → List TreeNode → Result Count Refusal → Type 0
+abbrev pub NewMade : State → CutNumbers → List TreeNode → Count → State → List TreeNode → Result Count Refusal → Type 0
 NewMade x cut before c y after (Ok d) =
     (Ok d ≡ noted_in (length before) c) × ((within (lower cut (4 + x.context.made)) && within (upper cut (4 + x.context.made))) ≡ true)
     × (in_force y.context ≡ in_force x.context ++ (lower cut (4 + x.context.made) ∷ (upper cut (4 + x.context.made) ∷ [])))

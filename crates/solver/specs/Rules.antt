@@ -1,14 +1,14 @@
 -- The rules: the sign of a form, the test of a context, the work at a node.
 use Rattle.std.specs.Prelude.{ℕ, zero, suc, ◌+◌, Bool, true, false, cond, ◌&&◌, List, [], ◌∷◌, ◌++◌, map, ℤ, pos, negsuc, Some, None, Option, ◌==◌, int_le, int_lt}
+use Rattle.std.specs.List.{list_all}
 use Rattle.base.specs.declared.refusal.Place.{Place}
 use Rattle.base.specs.declared.refusal.Place.TheVariants.{Node, Test}
 use Rattle.base.specs.declared.refusal.Refusal.TheVariants.{FuelSpent, Range, Cuts, NewParameters, Depth}
 use Rattle.base.specs.Forms.{opposite}
 use Rattle.base.specs.Numbers.{at, quot_by, within}
-use Rattle.tableau.specs.declared.cut.Cut.{Cut}
 use Rattle.tableau.specs.declared.table.Row.{Row}
 use Rattle.tableau.specs.Columns.{entering}
-use Rattle.tableau.specs.Cuts.{cut_of, cut_row, is_constant, lower, upper, whole}
+use Rattle.tableau.specs.Cuts.{CutNumbers, cut_of, cut_row, is_constant, lower, upper, whole}
 use Rattle.tableau.specs.Rows.{fits, pivoted}
 use Rattle.tableau.specs.Tables.{all_fit}
 use Rattle.tree.specs.Trees.{Tree, split, new, leaf, none}
@@ -85,13 +85,13 @@ with_row place again s context made r =
       added place again s' r (entering s.top r)
 
 -- T is a constant: the cut row is (r - T) / d
-unfoldable pub cut_plain : Place → (Work → Run Tree) → Work → Cut → Run Tree
+unfoldable pub cut_plain : Place → (Work → Run Tree) → Work → CutNumbers → Run Tree
 cut_plain place again s c = do
   tick place
   with_row place again s s.context s.made (cut_row c None)
 
 -- otherwise a new parameter q = floor(T / d) is made, and its two rows join the context
-unfoldable pub cut_new : Place → (Work → Run Tree) → Work → Cut → Run Tree
+unfoldable pub cut_new : Place → (Work → Run Tree) → Work → CutNumbers → Run Tree
 cut_new place again s c =
     let q = 4 + s.made in do
       tick place
@@ -100,7 +100,7 @@ cut_new place again s c =
       t ← with_row place again s (s.context ++ (lower c q ∷ (upper c q ∷ []))) (suc s.made) (cut_row c (Some q))
       return (new c.div c.form t)
 
-unfoldable pub cut : Place → (Work → Run Tree) → Work → Cut → Run Tree
+unfoldable pub cut : Place → (Work → Run Tree) → Work → CutNumbers → Run Tree
 cut place again s c =
     cond (s.cuts == 24) (bar Cuts place)
     (cond (is_constant c) (cut_plain place again s c)
@@ -163,12 +163,10 @@ test_with s C = do
 
 -- ---- the sign of a form where the context holds: two quick rules, then two tests
 abbrev pub none_below : List ℤ → Bool
-none_below [] = true
-none_below (x ∷ xs) = int_le (pos 0) x && none_below xs
+none_below C = list_all (λ x. int_le (pos 0) x) C
 
 abbrev pub none_above : List ℤ → Bool
-none_above [] = true
-none_above (x ∷ xs) = int_le x (pos 0) && none_above xs
+none_above C = list_all (λ x. int_le x (pos 0)) C
 
 unfoldable pub after_above : Bool → Run Sign
 after_above true = return Unknown

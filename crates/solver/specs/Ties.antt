@@ -1,5 +1,6 @@
 -- The tables, contexts and states of the code, as the rules see them.
-use Rattle.std.specs.Prelude.{◌≡◌, ℕ, suc, ◌+◌, cond, List, [], ◌∷◌, ◌++◌, map, length, take, drop, ℤ, pos, Some, None, Ok, Err, Option, Result, int_lt, nat_lt, slice_index_or}
+use Rattle.std.specs.Prelude.{◌≡◌, ℕ, suc, ◌+◌, cond, List, [], ◌++◌, map, length, take, drop, ℤ, pos, Ok, Err, Option, Result, int_lt, nat_lt, slice_index_or}
+use Rattle.std.specs.List.{position_from}
 use Rattle.base.specs.declared.refusal.Place.{Place}
 use Rattle.base.specs.declared.refusal.Place.TheVariants.{Node}
 use Rattle.base.specs.declared.refusal.Refusal.{Refusal}
@@ -64,8 +65,7 @@ after_cut s context made = record { top = s.top; rest = s.rest; context = contex
 
 -- the first row, counted from k, whose constant is below 0
 abbrev pub first_negative : ℕ → List Row → Option ℕ
-first_negative k [] = None
-first_negative k (r ∷ rs) = cond (int_lt (at r.form 9) (pos 0)) (Some k) (first_negative (k + 1) rs)
+first_negative k rs = position_from (λ r. int_lt (at r.form 9) (pos 0)) k rs
 
 -- what a cut in a test answers
 abbrev pub tested : Table → ℕ → Result Count Refusal → Outcome Work

@@ -41,8 +41,8 @@ fn leaf_of(t: &Table) -> Node
     ensures value { result ≡ Leaf (six_forms (map solution_of (top t.now))) }
 {
     let mut forms = [[0; 10]; 6];
-    for h in 0..t.unknowns {
-        forms[h] = solution(&t.rows[h]);
+    for (h, row) in t.rows[..t.unknowns].iter().enumerate() {
+        forms[h] = solution(row);
     }
     Node::Leaf(forms)
 }

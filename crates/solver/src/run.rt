@@ -37,8 +37,8 @@ fn write_keeps(ctx: &Context, work: &mut [Node], start: Count) -> Result<Count, 
     ensures steps { IfOk result (λ c. c.steps ≡ start.steps) }
 {
     let mut count = start;
-    for k in 0..ctx.count {
-        count = write(work, Node::Keep(narrow(&ctx.forms[k])), count)?;
+    for form in &ctx.forms[..ctx.count] {
+        count = write(work, Node::Keep(narrow(form)), count)?;
     }
     Ok(count)
 }
@@ -77,9 +77,7 @@ fn read_and_run<S: Source>(source: &S, work: &mut [Node], fuel: i64) -> Result<C
 fn blank(work: &mut [Node])
     ensures left { work.new ≡ replicate (length work.old) Blank }
 {
-    for node in work.iter_mut() {
-        *node = Node::None;
-    }
+    work.fill(Node::None);
 }
 
 /// The solution tree of the source's system, written into the work table with blank nodes after it.

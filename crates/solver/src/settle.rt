@@ -2,7 +2,7 @@
 ghost use Rattle.std.specs.Prelude.{◌≡◌, ℕ, ◌^◌, ◌<◌, ◌≤◌, true, false, ◌&&◌, List, [], ◌∷◌, length, ℤ, IfOk, OnOk, slice_index_or};
 ghost use Rattle.base.specs.declared.refusal.Place.TheVariants.{Node as AtNode};
 ghost use Rattle.base.specs.Numbers.{AllWithin};
-ghost use Rattle.tableau.specs.Cuts.{CutSound, cut_of, is_constant};
+ghost use Rattle.tableau.specs.Cuts.{cut_of, is_constant, numbers};
 ghost use Rattle.tableau.specs.Tables.{no_row};
 ghost use Rattle.tree.specs.Trees.{Tree};
 ghost use Rattle.solver.specs.Bounds.{EndBelow, Moved, StateReady, Stepped};
@@ -40,11 +40,7 @@ pub fn narrow(form: &Form) -> NodeForm
     requires { AllWithin (2 ^ 30) form.now }
     ensures value { result ≡ form.now }
 {
-    let mut small = [0; 10];
-    for k in 0..10 {
-        small[k] = form[k] as i32;
-    }
-    small
+    form.map(|x| x as i32)
 }
 
 /// Inner: one node more in the work table, where there is room.
@@ -64,13 +60,6 @@ pub fn write(work: &mut [Node], node: Node, count: Count) -> Result<Count, Refus
     })
 }
 
-/// Whether both hold.
-fn both(a: bool, b: bool) -> bool
-    ensures value { result ≡ (a && b) }
-{
-    a && b
-}
-
 /// Makes the new parameter floor(T / d): its node is written, and its two rows join the context.
 fn make_parameter(
     state: &mut State,
@@ -80,8 +69,7 @@ fn make_parameter(
 ) -> Result<Count, Refusal>
     requires ready { StateReady state.old }
     requires new { state.old.context.made < 5 }
-    requires sound { CutSound by.now }
-    ensures value { NewMade state.old by.now work.old count state.new work.new result }
+    ensures value { NewMade state.old (numbers by.now) work.old count state.new work.new result }
     ensures ready { OnOk result (StateReady state.new) }
     ensures table { state.new.table ≡ state.old.table }
     ensures counts { (state.new.cuts ≡ state.old.cuts) × (state.new.left ≡ state.old.left) }
@@ -98,9 +86,7 @@ fn make_parameter(
     )?;
     let floor = by.lower(q);
     let ceiling = by.upper(q);
-    let low = join(&mut state.context, &floor);
-    let high = join(&mut state.context, &ceiling);
-    if !both(low, high) {
+    if !join(&mut state.context, &floor) || !join(&mut state.context, &ceiling) {
         return Err(Refusal::Range(count.met(Place::Node)));
     }
     state.context.made += 1;
@@ -111,9 +97,8 @@ fn make_parameter(
 fn cut_constant(state: &mut State, x: &Cut, fuel: u32, count: Count) -> Result<Count, Refusal>
     requires ready { StateReady state.old }
     requires few { state.old.cuts < 24 }
-    requires sound { CutSound x.now }
-    requires constant { is_constant x.now ≡ true }
-    ensures value { (again : Work → Run Tree) (n : ℕ) → cut AtNode again (work_of state.old) x.now (limits fuel n) count ≡ next (worked state.new result) again (limits fuel n) }
+    requires constant { is_constant (numbers x.now) ≡ true }
+    ensures value { (again : Work → Run Tree) (n : ℕ) → cut AtNode again (work_of state.old) (numbers x.now) (limits fuel n) count ≡ next (worked state.new result) again (limits fuel n) }
     ensures ready { OnOk result (StateReady state.new) }
     ensures left { state.new.left ≡ state.old.left }
     ensures nodes { IfOk result (λ c. c.nodes ≡ count.nodes) }
@@ -135,9 +120,8 @@ fn cut_parameter(
     requires ready { StateReady state.old }
     requires few { state.old.cuts < 24 }
     requires new { state.old.context.made < 5 }
-    requires sound { CutSound x.now }
-    requires named { is_constant x.now ≡ false }
-    ensures value { (again : Work → Run Tree) → cut AtNode again (work_of state.old) x.now (limits fuel (length work.old)) count ≡ below_new x.now.div x.now.form (next (worked state.new result) again (limits fuel (length work.old))) }
+    requires named { is_constant (numbers x.now) ≡ false }
+    ensures value { (again : Work → Run Tree) → cut AtNode again (work_of state.old) (numbers x.now) (limits fuel (length work.old)) count ≡ below_new x.now.div x.now.form (next (worked state.new result) again (limits fuel (length work.old))) }
     ensures noted { Noted work.old count ((x.now.div, x.now.form) ∷ []) work.new result }
     ensures ready { OnOk result (StateReady state.new) }
     ensures left { state.new.left ≡ state.old.left }

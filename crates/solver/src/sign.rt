@@ -29,42 +29,18 @@ pub enum Scan {
     Clear,
 }
 
-/// Whether the number is below 0.
-fn is_below(x: i64) -> bool
-    ensures value { not result ≡ int_le (pos 0) x }
-{
-    x < 0
-}
-
-/// Whether the number is above 0.
-fn is_above(x: i64) -> bool
-    ensures value { not result ≡ int_le x (pos 0) }
-{
-    x > 0
-}
-
 /// Whether no number of the form is below 0.
 fn none_below(form: &Form) -> bool
     ensures value { result ≡ none_below form.now }
 {
-    for x in form.iter() {
-        if is_below(*x) {
-            return false;
-        }
-    }
-    true
+    form.iter().all(|x| *x >= 0)
 }
 
 /// Whether no number of the form is above 0.
 fn none_above(form: &Form) -> bool
     ensures value { result ≡ none_above form.now }
 {
-    for x in form.iter() {
-        if is_above(*x) {
-            return false;
-        }
-    }
-    true
+    form.iter().all(|x| *x <= 0)
 }
 
 /// Whether the constant is below 0 and no number above 0.
@@ -130,8 +106,8 @@ pub fn scan_rows(
 {
     let mut found = Scan::Clear;
     let mut count = start;
-    for h in 0..t.count {
-        let (s, next) = sign_of(&t.rows[h].form, ctx, fuel, count)?;
+    for (h, row) in t.rows[..t.count].iter().enumerate() {
+        let (s, next) = sign_of(&row.form, ctx, fuel, count)?;
         count = next;
         match s {
             Sign::NonNegative => {}

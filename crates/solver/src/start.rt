@@ -9,7 +9,8 @@ ghost use Rattle.solver.specs.Ties.{rest};
 
 use crate::context::Context;
 use base::form::{CONSTANT, Form};
-use tableau::table::{COLUMNS, Row, Table};
+use std::array;
+use tableau::table::{Row, Table};
 
 /// A row of zeros.
 pub const BLANK: Row = Row {
@@ -44,8 +45,8 @@ pub fn unit_table(unknowns: usize) -> Table
     ensures counts { (result.count ≡ unknowns) × (result.unknowns ≡ unknowns) }
 {
     let mut rows = [BLANK; 64];
-    for h in 0..unknowns {
-        rows[h] = unit(h);
+    for (h, row) in rows[..unknowns].iter_mut().enumerate() {
+        *row = unit(h);
     }
     Table {
         rows,
@@ -95,10 +96,7 @@ fn test_row(form: &Form, parameters: usize, made: usize) -> Row
     ensures value { result ≡ test_row parameters made form.now }
     ensures sound { Sound result }
 {
-    let mut coefs = [0; 9];
-    for l in 0..COLUMNS {
-        coefs[l] = test_coefficient(form, parameters, made, l);
-    }
+    let coefs = array::from_fn(|l| test_coefficient(form, parameters, made, l));
     let mut constant = [0; 10];
     constant[CONSTANT] = form[CONSTANT];
     Row {
@@ -117,8 +115,8 @@ pub fn test_table(ctx: &Context) -> Table
     ensures counts { (result.count ≡ ctx.now.parameters + ctx.now.made + ctx.now.count) × (result.unknowns ≡ ctx.now.parameters + ctx.now.made) }
 {
     let mut t = unit_table(ctx.parameters + ctx.made);
-    for k in 0..ctx.count {
-        push_row(&mut t, test_row(&ctx.forms[k], ctx.parameters, ctx.made));
+    for form in &ctx.forms[..ctx.count] {
+        push_row(&mut t, test_row(form, ctx.parameters, ctx.made));
     }
     t
 }

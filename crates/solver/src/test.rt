@@ -36,12 +36,7 @@ fn first_negative(t: &Table) -> Option<usize>
     ensures value { result ≡ first_negative 0 (in_use t.now) }
     ensures inside { IfSome result (λ h. h < t.now.count) }
 {
-    for h in 0..t.count {
-        if is_negative(&t.rows[h]) {
-            return Some(h);
-        }
-    }
-    None
+    t.rows[..t.count].iter().position(is_negative)
 }
 
 /// A cut from row h. In a test it needs no new parameter.

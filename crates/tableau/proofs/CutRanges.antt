@@ -4,9 +4,9 @@ use Rattle.std.proofs.lemmas.Int.{ints}
 use Rattle.base.specs.Numbers.{AllWithin, at, mod_by, quot_by}
 use Rattle.base.proofs.Products.{nat_abs-neg}
 use Rattle.tableau.specs.declared.table.Row.{Row}
-use Rattle.tableau.specs.declared.cut.Cut.{Cut}
+use Rattle.tableau.specs.declared.cut_numbers.Cut.{Cut}
 use Rattle.tableau.specs.Rows.{Sound, gcd_of, lowest}
-use Rattle.tableau.specs.Cuts.{CutSound, cut_form, cut_of, cut_row, lower, upper}
+use Rattle.tableau.specs.Cuts.{CutNumbers, CutSound, cut_form, cut_of, cut_row, lower, numbers, upper}
 use Rattle.tableau.proofs.Lowest.{gcd_of-lowest, lowest-above}
 
 -- ---- lists: past the end there is 0
@@ -46,7 +46,7 @@ cut-sound r h k =
     }
 
 -- the cut, where its parts were made one by one
-pub cut-is : (r : Row) (coefs form : List ℤ) (d : ℤ) → d ≡ r.div → coefs ≡ map (mod_by d) r.coefs → form ≡ map (mod_by d) (map neg_ℤ r.form) → ◌≡◌ {A = Cut} (record { coefs = coefs; form = form; div = d }) (cut_of r)
+pub cut-is : (r : Row) (coefs form : List ℤ) (d : ℤ) → d ≡ r.div → coefs ≡ map (mod_by d) r.coefs → form ≡ map (mod_by d) (map neg_ℤ r.form) → ◌≡◌ {A = CutNumbers} (record { coefs = coefs; form = form; div = d }) (cut_of r)
 cut-is r coefs form d e p q =
     let p' = p ∙ ap (λ z. map (mod_by z) r.coefs) e in
     let q' = q ∙ ap (λ z. map (mod_by z) (map neg_ℤ r.form)) e in
@@ -73,8 +73,12 @@ small-lowest r h coefs form d =
       alone = gcd_of-lowest r above;
     }
 
+-- r and T of every cut lie from 0 to d - 1
+pub sound : (c : Cut) → CutSound (numbers c)
+sound c = record { coefs_low = c.coefs_low; coefs_high = c.coefs_high; form_low = c.form_low; form_high = c.form_high; below = c.below }
+
 -- ---- what is made of a cut
-module _ (c : Cut) (s : CutSound c) where
+module _ (c : CutNumbers) (s : CutSound c) where
   pub cut-above : pos 1 ≤ℤ c.div
   cut-above = omega (arith, ints, s.form_low 0, s.form_high 0)
 

@@ -1,6 +1,6 @@
 -- Rows that a pivot replaces one after the other, and what is known of them after it.
-use Rattle.std.proofs.Common.{◌≡◌, ℕ, zero, suc, ◌+◌, ◌-◌, ◌<◌, ◌≤◌, true, List, [], ◌∷◌, ◌++◌, map, length, get_or, take, drop, set, pos, nat_abs, ◌<ℤ◌, sym, ap, ◌∙◌, subst, arith}
-use Rattle.std.proofs.lemmas.List.{drop_at, get_or-append_right, get_or_default, get_or-drop, get_or-map, get_or-take, length-append, length-drop, length-map, length-take-le, take_at}
+use Rattle.std.proofs.Common.{◌≡◌, ℕ, zero, suc, ◌+◌, ◌<◌, ◌≤◌, true, List, [], ◌∷◌, ◌++◌, map, length, get_or, take, drop, set, pos, nat_abs, ◌<ℤ◌, sym, ap, ◌∙◌, subst, arith}
+use Rattle.std.proofs.lemmas.List.{append-nil, drop_all, get_or_default, get_or-map, get_or-take, length-append, length-drop, length-map, length-take-le, take_all, take_at}
 use Rattle.std.proofs.lemmas.List.Edits.{map_over_more}
 use Rattle.std.proofs.lemmas.Int.{ints}
 use Rattle.std.proofs.lemmas.Bool.{and_parts}
@@ -14,27 +14,21 @@ use Rattle.tableau.proofs.Lowest.{gcd_of-alone, lowest-only, lowest-sound}
 use Rattle.tableau.proofs.Combined.{turned_zero}
 
 -- ---- the rows before h are replaced, the others are as they were
-module _ (f : Row → Row) (old rows : List Row) (h : ℕ) (inv : rows ≡ map f (take h old) ++ drop h old) (in-it : h ≤ length old) where
-  length-done : length (map f (take h old)) ≡ h
-  length-done = length-map (take h old) f ∙ length-take-le h old in-it
-
-  pub next-old : h < length old → get_or rows h no_row ≡ get_or old h no_row
-  next-old lt =
-      ap (λ rs. get_or rs h no_row) inv
-      ∙ get_or-append_right (map f (take h old)) (drop h old) h h no_row length-done (omega arith)
-      ∙ get_or-drop h old (h - h) no_row
-      ∙ ap (λ k. get_or old k no_row) (omega arith)
-
+module _ (f : Row → Row) (old rows : List Row) (h : ℕ) (inv : rows ≡ map f (take h old) ++ drop h old) where
   pub next-done : (r : Row) → h < length old → r ≡ f (get_or rows h no_row) → set rows h r ≡ map f (take (h + 1) old) ++ drop (h + 1) old
   next-done r lt v =
-      let same : h < length rows = omega (arith, ap length inv, length-append (map f (take h old)) (drop h old), length-done, length-drop h old) in
+      let done : length (map f (take h old)) ≡ h = length-map (take h old) f ∙ length-take-le h old (omega arith) in
+      let same : h < length rows = omega (arith, ap length inv, length-append (map f (take h old)) (drop h old), done, length-drop h old) in
       ap (set rows h) v ∙ map_over_more f old rows h (get_or rows h no_row) lt inv (get_or_default rows h no_row (get_or rows h no_row) same)
 
-  pub taken-done : take h rows ≡ map f (take h old)
-  taken-done = ap (take h) inv ∙ take_at (map f (take h old)) (drop h old) h length-done
+  pub all-done : length old ≤ h → rows ≡ map f old
+  all-done ge = inv ∙ (rw (take_all h old ge, drop_all h old ge) (append-nil (map f old)))
 
-  pub dropped-done : drop h rows ≡ drop h old
-  dropped-done = ap (drop h) inv ∙ drop_at (map f (take h old)) (drop h old) h length-done
+-- the first n rows are replaced, where others follow them
+pub taken-done : (f : Row → Row) (old rows rest : List Row) (n h : ℕ) → n ≤ length old → length (take n old) ≤ h → rows ≡ map f (take h (take n old)) ++ drop h (take n old) → take n (rows ++ rest) ≡ map f (take n old)
+taken-done f old rows rest n h in-it ge inv =
+    let e : rows ≡ map f (take n old) = all-done f (take n old) rows h inv ge in
+    take_at rows rest n (ap length e ∙ length-map (take n old) f ∙ length-take-le n old in-it) ∙ e
 
 -- ---- rows in range
 pub all_fit-at : (rs : List Row) (k : ℕ) → k < length rs → all_fit rs ≡ true → fits (get_or rs k no_row) ≡ true

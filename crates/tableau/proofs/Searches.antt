@@ -1,20 +1,30 @@
--- One step of a search through the unknowns' rows.
-use Rattle.std.proofs.Common.{◌≡◌, ℕ, ◌+◌, ◌<◌, ◌≤◌, Bool, List, [], ◌∷◌, length, get_or, drop, ℤ, ap, ◌∙◌, arith}
+-- Searches through the unknowns' rows.
+use Rattle.std.proofs.Common.{◌≡◌, ℕ, ◌+◌, ◌<◌, Bool, true, false, cond, not, List, [], ◌∷◌, length, get_or, ℤ, Some, refl, sym, ap, ◌∙◌, subst, arith}
 use lib.Signed.{lt_z}
-use Rattle.std.proofs.lemmas.List.{at_drop_more, at_drop_all, get_or-take, length-take, length-take-le}
+use Rattle.std.specs.List.{position_from}
+use Rattle.std.proofs.lemmas.List.{get_or_default, get_or-take, length-take}
 use Rattle.std.proofs.lemmas.Int.{ints}
 use Rattle.tableau.specs.declared.table.Row.{Row}
 use Rattle.tableau.specs.declared.table.Table.{Table}
-use Rattle.tableau.specs.Tables.{no_row, top}
+use Rattle.tableau.specs.Cuts.{first_fraction, whole}
+use Rattle.tableau.specs.Rows.{Sound}
+use Rattle.tableau.specs.Tables.{Ready, no_row, top}
 use Rattle.tableau.specs.Columns.{first_less}
 
--- what a definition says of the rows from h on: row h comes first
-pub top-more : {Y : Type 0} (F : List Row → Y) (t : Table) (h : ℕ) → h < t.unknowns → t.unknowns ≤ length t.rows → F (drop h (top t)) ≡ F (get_or t.rows h no_row ∷ drop (h + 1) (top t))
-top-more F t h lt le =
-    at_drop_more F (top t) h no_row (omega (arith, length-take-le t.unknowns t.rows le)) ∙ ap (λ r. F (r ∷ drop (h + 1) (top t))) (get_or-take t.unknowns t.rows h no_row lt)
+flip : {Y : Type 0} (b : Bool) (x y : Y) → cond (not b) x y ≡ cond b y x
+flip true x y = refl
+flip false x y = refl
 
-pub top-all : {Y : Type 0} (F : List Row → Y) (t : Table) (h : ℕ) → t.unknowns ≤ h → F (drop h (top t)) ≡ F []
-top-all F t h ge = at_drop_all F (top t) h (omega (arith, length-take t.unknowns t.rows))
+-- the first row that is not whole, as `position` looks for it
+pub first_fraction-is : (k : ℕ) (rs : List Row) → position_from (λ r. not (whole r)) k rs ≡ first_fraction k rs
+first_fraction-is k [] = refl
+first_fraction-is k (r ∷ rs) = flip (whole r) (Some k) _ ∙ ap (λ o. cond (whole r) o (Some k)) (first_fraction-is (k + 1) rs)
+
+-- each of the unknowns' rows is sound
+pub top-sound : (t : Table) → Ready t → (x : Row) (k : ℕ) → k < length (top t) → x ≡ get_or (top t) k x → Sound x
+top-sound t ready x k lt e =
+    let l : k < t.unknowns = omega (arith, length-take t.unknowns t.rows) in
+    subst Sound (sym (e ∙ get_or-take t.unknowns t.rows k x l ∙ get_or_default t.rows k x no_row (omega (arith, length-take t.unknowns t.rows)))) (ready.sound k (omega (arith, ready.inside)))
 
 pub less-differ : (x y : ℤ) (rest : Bool) → (x ≡ y → ⊥) → first_less x y rest ≡ lt_z x y
 less-differ x y rest ne = grind (arith, ints)

@@ -1,5 +1,6 @@
 -- The working table: the unknowns' rows, then the system's, then the cuts.
-use Rattle.std.specs.Prelude.{ℕ, ◌<◌, ◌≤◌, Bool, true, ◌&&◌, List, [], ◌∷◌, get_or, take, pos, ◌<ℤ◌, slice_index_or}
+use Rattle.std.specs.Prelude.{ℕ, ◌<◌, ◌≤◌, Bool, List, [], get_or, take, pos, ◌<ℤ◌, slice_index_or}
+use Rattle.std.specs.List.{list_all}
 use Rattle.base.specs.Numbers.{at}
 use Rattle.tableau.specs.declared.table.Row.{Row}
 use Rattle.tableau.specs.declared.table.Table.{Table}
@@ -17,8 +18,7 @@ abbrev pub top : Table → List Row
 top t = take t.unknowns t.rows
 
 abbrev pub all_fit : List Row → Bool
-all_fit [] = true
-all_fit (r ∷ rs) = fits r && all_fit rs
+all_fit rs = list_all fits rs
 
 -- a table that a pivot or a cut may work on
 pub record Ready (t : Table) : Type 0 where

@@ -5,7 +5,7 @@ ghost use Rattle.tableau.specs.Rows.{Sound};
 ghost use Rattle.tableau.specs.Tables.{PivotAt, Ready, top};
 
 use crate::row::times;
-use crate::table::{COLUMNS, Row, Table};
+use crate::table::{Row, Table};
 
 /// Inner: whether column j beats column l as the entering column of row i.
 pub fn beats(t: &Table, i: &Row, j: usize, l: usize) -> bool
@@ -14,9 +14,9 @@ pub fn beats(t: &Table, i: &Row, j: usize, l: usize) -> bool
     requires columns { (j < 9) × (l < 9) }
     ensures { result ≡ beats (top t.now) i.now j l }
 {
-    for h in 0..t.unknowns {
-        let x = times(t.rows[h].coefs[j], i.coefs[l]);
-        let y = times(t.rows[h].coefs[l], i.coefs[j]);
+    for h in &t.rows[..t.unknowns] {
+        let x = times(h.coefs[j], i.coefs[l]);
+        let y = times(h.coefs[l], i.coefs[j]);
         if x != y {
             return x < y;
         }
@@ -47,8 +47,8 @@ pub fn entering(t: &Table, i: &Row) -> Option<usize>
     ensures best { Enters (top t.now) i.now result }
 {
     let mut best = None;
-    for j in 0..COLUMNS {
-        if i.coefs[j] > 0 {
+    for (j, x) in i.coefs.iter().enumerate() {
+        if *x > 0 {
             best = better(t, i, j, best);
         }
     }
@@ -62,8 +62,5 @@ pub fn pivot_place(t: &Table, i: usize) -> Option<(usize, usize)>
     ensures value { result ≡ pivot_place t.now i }
     ensures inside { IfSome result (PivotAt t.now) }
 {
-    match entering(t, &t.rows[i]) {
-        Some(j) => Some((i, j)),
-        None => None,
-    }
+    entering(t, &t.rows[i]).map(|j| (i, j))
 }

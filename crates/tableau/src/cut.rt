@@ -1,23 +1,16 @@
 //! Cuts: a row that the whole-number points still meet, and the fractional corner does not.
-ghost use Rattle.std.specs.Prelude.{◌≡◌, ◌^◌, ◌<◌, IfSome};
+ghost use Rattle.std.specs.Prelude.{◌≡◌, ◌^◌, ◌<◌, take, IfSome};
 ghost use Rattle.base.specs.Numbers.{AllWithin};
 ghost use Rattle.tableau.specs.Rows.{Sound};
-ghost use Rattle.tableau.specs.Cuts.{CutSound, cut_of, cut_row, first_fraction, is_constant, lower, upper, whole};
+ghost use Rattle.tableau.specs.Cuts.{cut_of, cut_row, first_fraction, is_constant, lower, none_of, numbers, upper, whole};
 ghost use Rattle.tableau.specs.Tables.{Ready, top};
 
+pub use crate::cut_numbers::Cut;
 use crate::row::lowest;
 use crate::table::{Row, Table};
 use base::divisor::Divisor;
 use base::form::{CONSTANT, Form};
 use base::number::{modulo, negate, reduce};
-
-/// The numbers of a cut: r, T and the divisor d.
-#[derive(Clone, Copy)]
-pub struct Cut {
-    pub coefs: [i64; 9],
-    pub form: Form,
-    pub div: i64,
-}
 
 /// Inner: whether the row's divisor divides each number of its form.
 pub fn whole(row: &Row) -> bool
@@ -25,12 +18,7 @@ pub fn whole(row: &Row) -> bool
     ensures { result ≡ whole row.now }
 {
     let by = Divisor { value: row.div };
-    for x in row.form.iter() {
-        if modulo(by, *x) != 0 {
-            return false;
-        }
-    }
-    true
+    row.form.iter().all(|x| modulo(by, *x) == 0)
 }
 
 /// Inner: the first of the unknowns' rows whose form has a number that its divisor does not divide.
@@ -39,19 +27,13 @@ pub fn first_fraction(t: &Table) -> Option<usize>
     ensures value { result ≡ first_fraction 0 (top t.now) }
     ensures inside { IfSome result (λ h. h < t.now.unknowns) }
 {
-    for h in 0..t.unknowns {
-        if !whole(&t.rows[h]) {
-            return Some(h);
-        }
-    }
-    None
+    t.rows[..t.unknowns].iter().position(|row| !whole(row))
 }
 
 /// Inner: r and T of the cut from a row.
 pub fn cut_of(row: &Row) -> Cut
     requires { Sound row.now }
-    ensures value { result ≡ cut_of row.now }
-    ensures sound { CutSound result }
+    ensures { numbers result ≡ cut_of row.now }
 {
     let by = Divisor { value: row.div };
     let mut coefs = row.coefs;
@@ -66,24 +48,25 @@ pub fn cut_of(row: &Row) -> Cut
     }
 }
 
+/// Whether the form names no parameter.
+pub fn names_no_parameter(form: &Form) -> bool
+    ensures { result ≡ none_of (take 9 form.now) }
+{
+    form[..CONSTANT].iter().all(|x| *x == 0)
+}
+
 impl Cut {
     /// Whether T names no parameter.
     pub fn is_constant(&self) -> bool
-        ensures { result ≡ is_constant self.now }
+        ensures { result ≡ is_constant (numbers self.now) }
     {
-        for k in 0..CONSTANT {
-            if self.form[k] != 0 {
-                return false;
-            }
-        }
-        true
+        names_no_parameter(&self.form)
     }
 
     /// Inner: the cut row, (r - T) / d, or with a new parameter q at a place (r - T + d * q) / d.
     pub fn row(&self, new: Option<usize>) -> Row
-        requires sound { CutSound self.now }
-        requires place { IfSome new (λ q. q < 9) }
-        ensures value { result ≡ cut_row self.now new }
+        requires { IfSome new (λ q. q < 9) }
+        ensures value { result ≡ cut_row (numbers self.now) new }
         ensures sound { Sound result }
     {
         let coefs = self.coefs;
@@ -101,9 +84,8 @@ impl Cut {
 
     /// Inner: T - d * q, which is at least 0 for the new parameter q at a place.
     pub fn lower(&self, q: usize) -> Form
-        requires sound { CutSound self.now }
-        requires place { q < 9 }
-        ensures value { result ≡ lower self.now q }
+        requires { q < 9 }
+        ensures value { result ≡ lower (numbers self.now) q }
         ensures small { AllWithin (2 ^ 30) result }
     {
         let mut form = self.form;
@@ -113,9 +95,8 @@ impl Cut {
 
     /// Inner: -T + d * q + d - 1, which is at least 0 too.
     pub fn upper(&self, q: usize) -> Form
-        requires sound { CutSound self.now }
-        requires place { q < 9 }
-        ensures value { result ≡ upper self.now q }
+        requires { q < 9 }
+        ensures value { result ≡ upper (numbers self.now) q }
         ensures small { AllWithin (2 ^ 30) result }
     {
         let mut form = self.form;

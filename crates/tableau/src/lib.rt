@@ -3,6 +3,7 @@
 
 pub mod column;
 pub mod cut;
+pub mod cut_numbers;
 pub mod pair;
 pub mod pivot;
 pub mod row;

@@ -12,12 +12,7 @@ pub fn all_fit(t: &Table) -> bool
     requires { t.now.count ≤ 64 }
     ensures { result ≡ all_fit (in_use t.now) }
 {
-    for h in 0..t.count {
-        if !fits(&t.rows[h]) {
-            return false;
-        }
-    }
-    true
+    t.rows[..t.count].iter().all(fits)
 }
 
 /// Inner: the pivot at the place (row, column), whose number is above 0. It answers whether all rows
@@ -33,8 +28,9 @@ pub fn pivot(t: &mut Table, place: (usize, usize)) -> bool
 {
     let (i, j) = place;
     let by = t.rows[i];
-    for h in 0..t.count {
-        t.rows[h] = pivoted(t.rows[h], &by, j);
+    let count = t.count;
+    for row in &mut t.rows[..count] {
+        *row = pivoted(*row, &by, j);
     }
     all_fit(t)
 }

@@ -74,8 +74,8 @@ pub fn combine(p: Pair, xs: &mut [i64], ys: &[i64])
     requires small_ys { AllWithin (2 ^ 30) ys.now }
     ensures { xs.new ≡ combined p.a p.b xs.old ys.now }
 {
-    for k in 0..xs.len() {
-        xs[k] = cross(p, xs[k], ys[k]);
+    for (k, x) in xs.iter_mut().enumerate() {
+        *x = cross(p, *x, ys[k]);
     }
 }
 

@@ -3,4 +3,4 @@ use Rattle.solver.proofs.Writing.{LeafFilled}
 use Rattle.solver.proofs.node.leaf_of.Given as goal
 
 abbrev pub invariant-loop-h : goal.invariant-loop-h
-invariant-loop-h l = (l.h ≤ length l.t.rows) × LeafFilled l.t.rows l.h l.forms
+invariant-loop-h l = (l.t.unknowns ≤ length l.t.rows) × LeafFilled l.t.rows l.h l.forms

@@ -1,5 +1,5 @@
 use Rattle.solver.proofs.Writing.{Kept}
 use Rattle.solver.proofs.run.write_keeps.Given as goal
 
-abbrev pub invariant-loop-k : goal.invariant-loop-k
-invariant-loop-k l = Kept l.ctx l.initial.work l.initial.count l.k l.work l.count
+abbrev pub invariant-loop-form : goal.invariant-loop-form
+invariant-loop-form l = Kept l.ctx l.initial.work l.initial.count l.form-index l.work l.count

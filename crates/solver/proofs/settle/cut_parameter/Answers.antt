@@ -1,6 +1,7 @@
 use Rattle.std.proofs.Common.{[], ◌∷◌, length, Err, sym, refl, ap, ◌∙◌, subst, rules}
 use Rattle.std.proofs.lemmas.Result.{err_from_is_err_and, IfOk-from_err}
 use Rattle.base.specs.declared.refusal.Place.TheVariants.{Node}
+use Rattle.tableau.specs.Cuts.{numbers}
 use Rattle.solver.specs.Bounds.{in_force}
 use Rattle.solver.specs.Ends.{Noted, below_new, worked}
 use Rattle.solver.specs.Rules.{with_row}
@@ -13,7 +14,7 @@ use Rattle.solver.proofs.settle.cut_parameter.Goals as goal
 pub returns-in_err-next : goal.returns-in_err-next
 returns-in_err-next c =
     let x = c.args.state.now in
-    let k = c.args.x.now in
+    let k = numbers c.args.x.now in
     let w = c.args.work.now in
     let p = err_from_is_err_and c.from_residual.result c.from_residual.ensures.1 in
     let e = p.1 ∙ ap Err p.2 in
@@ -28,7 +29,7 @@ returns-in_err-next c =
 pub returns-in_err-next-2 : goal.returns-in_err-next-2
 returns-in_err-next-2 c =
     let x = c.args.state.now in
-    let k = c.args.x.now in
+    let k = numbers c.args.x.now in
     let w = c.args.work.now in
     let y = c.make_parameter.new.state in
     let p = err_from_is_err_and c.from_residual-in_err-next-2.result c.from_residual-in_err-next-2.ensures.1 in
@@ -44,7 +45,7 @@ returns-in_err-next-2 c =
 pub returns : goal.returns
 returns c =
     let x = c.args.state.now in
-    let k = c.args.x.now in
+    let k = numbers c.args.x.now in
     let w = c.args.work.now in
     let y = c.make_parameter.new.state in
     let q = c.in_ok-next-2.ensures in

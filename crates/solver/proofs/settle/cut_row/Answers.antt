@@ -36,7 +36,7 @@ returns-then-is_constant c =
       value = (
         [],
         noted-none w c.args.count c.cut_constant.result c.cut_constant.ensures.nodes,
-        λ again. ap (λ k. cut Node again (work_of x) k (limits c.args.fuel (length w)) c.args.count) (sym c.cut_of-x.ensures.value) ∙ c.cut_constant.ensures.value again (length w),
+        λ again. ap (λ k. cut Node again (work_of x) k (limits c.args.fuel (length w)) c.args.count) (sym c.cut_of-x.ensures) ∙ c.cut_constant.ensures.value again (length w),
       );
       ready = c.cut_constant.ensures.ready;
       left = c.cut_constant.ensures.left;
@@ -53,7 +53,7 @@ returns-then-state-ge-NEW c =
         [],
         tt,
         λ again.
-            cut-fifth again (work_of x) (cut_of row) c.args.fuel (length w) c.args.count (omega (arith, c.requires.ready.cuts)) (ap is_constant (sym c.cut_of-x.ensures.value) ∙ sym c.if-is_constant.ensures) (omega (arith, c.requires.ready.context.new))
+            cut-fifth again (work_of x) (cut_of row) c.args.fuel (length w) c.args.count (omega (arith, c.requires.ready.cuts)) (ap is_constant (sym c.cut_of-x.ensures) ∙ sym c.if-is_constant.ensures) (omega (arith, c.requires.ready.context.new))
             ∙ ap Err (ap (λ m. cond (ltb c.args.count.steps c.args.fuel) (NewParameters m) (FuelSpent (met_at Node c.args.count))) (sym c.met-then-state-ge-NEW.ensures) ∙ sym c.barred-then-state-ge-NEW.ensures.value),
       );
       ready = tt;
@@ -70,7 +70,7 @@ returns c =
       value = (
         (k.div, k.form) ∷ [],
         c.cut_parameter.ensures.noted,
-        λ again. ap (λ k. cut Node again (work_of x) k (limits c.args.fuel (length w)) c.args.count) (sym c.cut_of-x.ensures.value) ∙ c.cut_parameter.ensures.value again,
+        λ again. ap (λ k. cut Node again (work_of x) k (limits c.args.fuel (length w)) c.args.count) (sym c.cut_of-x.ensures) ∙ c.cut_parameter.ensures.value again,
       );
       ready = c.cut_parameter.ensures.ready;
       left = c.cut_parameter.ensures.left;

@@ -5,4 +5,4 @@ use Rattle.solver.specs.Tests.{unit_rows}
 use Rattle.solver.proofs.start.unit_table.Given as goal
 
 abbrev pub invariant-loop-h : goal.invariant-loop-h
-invariant-loop-h l = (length l.rows ≡ 64) × ((k : ℕ) → k < l.h → Sound (get_or l.rows k no_row)) × (take l.h l.rows ≡ unit_rows 0 l.h)
+invariant-loop-h l = (length l.row-items ≡ l.unknowns) × ((k : ℕ) → k < l.h → Sound (get_or l.row-items k no_row)) × (take l.h l.row-items ≡ unit_rows 0 l.h)

@@ -34,7 +34,7 @@ returns-in_err-count c =
     let row = get_or t.rows c.args.h no_row in
     let lt : c.args.h < t.count = omega (arith, c.requires.row, c.requires.ready.inside) in
     let k = const-at t.count t.rows c.args.h c.requires.constants lt in
-    let e : c.row-plain.result ≡ cut_row (cut_of row) None = c.row-plain.ensures.value ∙ ap (λ x. cut_row x None) c.cut_of.ensures.value in
+    let e : c.row-plain.result ≡ cut_row (cut_of row) None = c.row-plain.ensures.value ∙ ap (λ x. cut_row x None) c.cut_of.ensures in
     let p = err_from_is_err_and c.from_residual.result c.from_residual.ensures.1 in
     record {
       value = λ again n.
@@ -54,7 +54,7 @@ returns c =
     let row = get_or t.rows c.args.h no_row in
     let lt : c.args.h < t.count = omega (arith, c.requires.row, c.requires.ready.inside) in
     let k = const-at t.count t.rows c.args.h c.requires.constants lt in
-    let e : c.row-plain.result ≡ cut_row (cut_of row) None = c.row-plain.ensures.value ∙ ap (λ x. cut_row x None) c.cut_of.ensures.value in
+    let e : c.row-plain.result ≡ cut_row (cut_of row) None = c.row-plain.ensures.value ∙ ap (λ x. cut_row x None) c.cut_of.ensures in
     record {
       value = λ again n.
           test-cut-is again t c.args.cuts row c.row-plain.result c.args.fuel n c.args.count (omega arith) k e

@@ -4,4 +4,4 @@ use Rattle.tableau.specs.Tables.{top}
 use Rattle.tableau.proofs.column.beats.Given as goal
 
 abbrev pub invariant-loop-h : goal.invariant-loop-h
-invariant-loop-h l = beats (drop l.h (top l.t)) l.i l.j l.l ≡ beats (top l.t) l.i l.j l.l
+invariant-loop-h l = beats (drop l.h-index (top l.t)) l.i l.j l.l ≡ beats (top l.t) l.i l.j l.l

@@ -11,5 +11,13 @@ returns c =
     let f : SFits w64 row.div = search rules in
     let d = to_z-of_z w64 row.div f in
     let form = c.reduce-2.ensures ∙ ap (map (mod_by _)) c.negate.ensures in
-    let e = cut-is row _ _ _ d c.reduce.ensures form in
-    record { value = e; sound = subst CutSound (sym e) (cut-sound row c.requires.above c.requires.below) }
+    cut-is row _ _ _ d c.reduce.ensures form
+
+pub invariant_of-result : goal.invariant_of-result
+invariant_of-result c =
+    let row = c.args.row.now in
+    let f : SFits w64 row.div = search rules in
+    let d = to_z-of_z w64 row.div f in
+    let form = c.reduce-2.ensures ∙ ap (map (mod_by _)) c.negate.ensures in
+    let s = subst CutSound (sym (cut-is row _ _ _ d c.reduce.ensures form)) (cut-sound row c.requires.above c.requires.below) in
+    record { coefs_low = s.coefs_low; coefs_high = s.coefs_high; form_low = s.form_low; form_high = s.form_high; below = s.below }
