@@ -8,7 +8,7 @@ use Rattle.base.specs.declared.refusal.Refusal.{Refusal}
 use Rattle.base.specs.declared.refusal.Refusal.TheVariants.{Cuts, Depth, FuelSpent, NewParameters, NoParameterPoint, Range}
 use Rattle.base.specs.Forms.{opposite}
 use Rattle.base.specs.Numbers.{at}
-use Rattle.tableau.specs.declared.cut.Cut.{Cut}
+use Rattle.tableau.specs.Cuts.{CutNumbers as Cut}
 use Rattle.tableau.specs.declared.table.Row.{Row}
 use Rattle.tableau.specs.Cuts.{is_constant}
 use Rattle.tree.specs.Trees.{Tree, leaf, new, none, split}

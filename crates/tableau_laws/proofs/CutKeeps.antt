@@ -4,7 +4,7 @@ use borrow.Author.Differences.{ints}
 use Rattle.std.proofs.lemmas.List.{length-map, map-append}
 use Rattle.base.specs.Numbers.{at, mod_by}
 use Rattle.tableau.specs.declared.table.Row.{Row}
-use Rattle.tableau.specs.declared.cut.Cut.{Cut}
+use Rattle.tableau.specs.Cuts.{CutNumbers as Cut}
 use Rattle.tableau.specs.Cuts.{cut_form, cut_of, cut_row, is_constant}
 use Rattle.algebra.proofs.Naturals.{nonneg-append}
 use Rattle.tableau_laws.specs.Lines.{Above, AllSay, In, Line, Says, Unused, under}

@@ -2,7 +2,7 @@
 use Rattle.std.specs.Prelude.{ℕ, List, ℤ, slice_set}
 use Rattle.base.specs.Numbers.{floor_div}
 use Rattle.base.specs.Forms.{value_at}
-use Rattle.tableau.specs.declared.cut.Cut.{Cut}
+use Rattle.tableau.specs.Cuts.{CutNumbers as Cut}
 
 -- the value of a cut's new parameter: T over d, rounded down
 abbrev pub new_value : Cut → List ℤ → ℤ
