@@ -3,66 +3,75 @@
 
 All answers go at first; those that a check then asks for come back, until the crate proves, with `--margin` too. Run it in a crate that proves, at the top of a
 checkout, with nothing uncommitted, and `rt tidy` after it."""
-import sys,os,re,subprocess,glob
-crate=sys.argv[1].rstrip('/')
-def files(): return sorted(f for f in glob.glob(crate+'/proofs/**/Answers.antt',recursive=True) if '/out/' not in f)
-START=re.compile(r'^(?:pub )?([A-Za-z_][^\s:]*) : goal\.')
-def parse(text):
-    """head lines, then blocks (name or None, lines)"""
-    lines=text.split('\n'); blocks=[]; cur=[None,[]]
-    for i,l in enumerate(lines):
-        m=START.match(l)
-        # any other top-level definition begins a block of its own
-        d=re.match(r'^(?:pub |abbrev |unfoldable )*([A-Za-z_][^\s:]*) :(?: |$)',l)
-        c=re.match(r'^-- ',l)
-        if m: blocks.append(cur); cur=[m.group(1),[l]]
-        elif d and not l.startswith('use '): blocks.append(cur); cur=[None,[l]]
-        else: cur[1].append(l)
-    blocks.append(cur)
+import glob
+import os
+import re
+import subprocess
+import sys
+
+ANSWER = re.compile(r"^(?:pub )?([A-Za-z_][^\s:]*) : goal\.")
+DEFINITION = re.compile(r"^(?:pub |abbrev |unfoldable )*[A-Za-z_][^\s:]* :(?: |$)")
+
+
+def blocks_of(text):
+    """The lines before the first definition, then each definition with its lines; an answer has its name, all else None."""
+    blocks = [[None, []]]
+    for line in text.split("\n"):
+        answer = ANSWER.match(line)
+        if answer or DEFINITION.match(line):
+            blocks.append([answer.group(1) if answer else None, []])
+        blocks[-1][1].append(line)
     return blocks
-def write(f,blocks,drop):
-    keep=[b for b in blocks if b[0] not in drop]
-    if not any(b[0] for b in keep):
-        if os.path.exists(f): os.remove(f)
-        return
-    t='\n'.join('\n'.join(b[1]) for b in keep)
-    open(f,'w').write(t if t.endswith('\n') else t+'\n')
-def check(extra=[]):
-    p=subprocess.run(['rt','check']+extra,cwd=crate,capture_output=True,text=True)
-    return p.returncode, p.stdout+p.stderr
-orig={f:open(f).read() for f in files()}
-blocks={f:parse(t) for f,t in orig.items()}
-names={f:[b[0] for b in bs if b[0]] for f,bs in blocks.items()}
-drop={f:set(n) for f,n in names.items()}
-total=sum(len(n) for n in names.values())
-rounds=0
-while True:
-    rounds+=1
-    for f in orig: write(f,blocks[f],drop[f])
-    rc,out=check()
-    if rc==0:
-        rc,out=check(['--margin'])
-        if rc==0: break
-    put=0
-    for f in orig:
-        folder=os.path.dirname(f)[len(crate)+1:]          # proofs/a/b
-        key=folder[len('proofs/'):].replace('/','.')
-        for n in list(drop[f]):
-            # a goal is named in the output by its function's path and its name
-            if re.search(r'(?<![\w-])'+re.escape(n)+r'(?![\w-])',out) and (folder in out or key in out or key.split('.')[-1] in out):
-                drop[f].discard(n); put+=1
-    if put==0:
-        print('no goal matched; putting back the files whose folder is named in the output');
-        for f in orig:
-            key=os.path.dirname(f)[len(crate)+1+len('proofs/'):]
-            if drop[f] and (key in out or key.replace('/','.') in out or key.split('/')[-1] in out):
-                drop[f]=set(); put+=1
-    if put==0 or rounds>12:
-        print('giving up; all put back')
-        for f,t in orig.items():
-            os.makedirs(os.path.dirname(f),exist_ok=True); open(f,'w').write(t)
-        sys.exit(1)
-gone=sum(len(d) for d in drop.values())
-print('%s: %d answers, %d gone, %d kept, %d rounds'%(crate,total,gone,total-gone,rounds))
-for f in drop:
-    if drop[f]: print('  ',f,' '.join(sorted(drop[f])))
+
+
+def write(path, blocks, gone):
+    kept = [lines for name, lines in blocks if name not in gone]
+    if any(name and name not in gone for name, _ in blocks):
+        with open(path, "w") as file:
+            file.write("\n".join("\n".join(lines) for lines in kept).rstrip("\n") + "\n")
+    elif os.path.exists(path):
+        os.remove(path)
+
+
+def check(crate, *options):
+    run = subprocess.run(["rt", "check", *options], cwd=crate, capture_output=True, text=True)
+    return run.returncode == 0, run.stdout + run.stderr
+
+
+def wanted(folder, name, said):
+    """Whether the check asks for this answer: it names the goal, and the function or the file."""
+    function = folder.split("proofs/", 1)[1].replace("/", ".")
+    named = re.search(r"(?<![\w-])" + re.escape(name) + r"(?![\w-])", said)
+    return named and (folder.split("/", 2)[2] in said or function in said or function.split(".")[-1] in said)
+
+
+def main():
+    crate = sys.argv[1].rstrip("/")
+    paths = sorted(p for p in glob.glob(crate + "/proofs/**/Answers.antt", recursive=True))
+    texts = {path: open(path).read() for path in paths}
+    blocks = {path: blocks_of(text) for path, text in texts.items()}
+    gone = {path: {name for name, _ in parts if name} for path, parts in blocks.items()}
+    total = sum(len(names) for names in gone.values())
+    for _ in range(12):
+        for path in paths:
+            write(path, blocks[path], gone[path])
+        proved, said = check(crate)
+        if proved:
+            proved, said = check(crate, "--margin")
+        if proved:
+            left = sum(len(names) for names in gone.values())
+            print(f"{crate}: {left} of {total} answers went")
+            return
+        back = [(path, name) for path in paths for name in gone[path] if wanted(os.path.dirname(path), name, said)]
+        if not back:
+            break
+        for path, name in back:
+            gone[path].discard(name)
+    for path, text in texts.items():
+        os.makedirs(os.path.dirname(path), exist_ok=True)
+        with open(path, "w") as file:
+            file.write(text)
+    sys.exit(f"{crate}: no end was found; all answers stand as they were")
+
+
+main()
