@@ -41,7 +41,7 @@ def check(crate, *options):
 def wanted(folder, name, said):
     """Whether the check asks for this answer: it names the goal, and the function or the file."""
     function = folder.split("proofs/", 1)[1].replace("/", ".")
-    named = re.search(r"(?<![\w-])" + re.escape(name) + r"(?![\w-])", said)
+    named = re.search(r"(?<![\w-])" + re.escape(name) + r"(-clause-[\w-]+)?(?![\w-])", said)
     return named and (folder.split("/", 2)[2] in said or function in said or function.split(".")[-1] in said)
 
 
