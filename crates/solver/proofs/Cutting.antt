@@ -1,5 +1,5 @@
 -- A cut, as the rules have it.
-use Rattle.std.proofs.Common.{◌≡◌, ℕ, suc, ◌+◌, ◌<◌, Bool, true, false, cond, ◌&&◌, eqb, ltb, List, [], ◌∷◌, ◌++◌, length, ℤ, Some, None, Ok, Err, Result, sym, refl, ap, ◌∙◌, inl, inr, arith}
+use Rattle.std.proofs.Common.{◌≡◌, ℕ, suc, ◌+◌, ◌<◌, Bool, true, false, cond, ◌&&◌, eqb, ltb, MatchBool, List, [], ◌∷◌, ◌++◌, length, ℤ, Some, None, Ok, Err, Result, sym, refl, ap, ◌∙◌, inl, inr, arith}
 use Rattle.std.proofs.lemmas.Bool.{eq-eqb, ne_eqb}
 use Rattle.base.specs.declared.refusal.Met.{Met}
 use Rattle.base.specs.declared.refusal.Place.{Place}
@@ -49,6 +49,11 @@ bar-is {A} why place fuel room c = go (ltb c.steps fuel)
     go : (b : Bool) → ◌≡◌ {A = Outcome A} (cond b (Err (why (met_at place c))) (Err (FuelSpent (met_at place c)))) (Err (cond b (why (met_at place c)) (FuelSpent (met_at place c))))
     go true = refl
     go false = refl
+
+-- the refusal that the code gives there
+pub barred-is : (M : Type 0) (b : Bool) (r why spent : Refusal) → MatchBool b (M × (r ≡ why)) (r ≡ spent) → cond b why spent ≡ r
+barred-is M true r why spent h = sym h.1
+barred-is M false r why spent h = sym h
 
 module _ (place : Place) (again : Work → Run Tree) (s : Work) (x : CutNumbers) (fuel room : ℕ) (c : Count) where
   pub cut-many : s.cuts ≡ 24 → cut place again s x (limits fuel room) c ≡ Err (cond (ltb c.steps fuel) (Cuts (met_at place c)) (FuelSpent (met_at place c)))

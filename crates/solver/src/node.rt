@@ -82,12 +82,7 @@ fn split(
     ensures stepped { IfOk result (Stepped fuel start) }
 {
     if state.left == 0 {
-        return Err(barred(
-            Refusal::Depth(start.met(Place::Node)),
-            Place::Node,
-            fuel,
-            start,
-        ));
+        return Err(barred(Refusal::Depth, Place::Node, fuel, start));
     }
     let form = state.table.rows[h].form;
     let count = tick(Place::Node, fuel, start)?;

@@ -150,24 +150,14 @@ fn cut_row(
     ensures moved { IfOk result (Moved fuel count) }
 {
     if state.cuts >= CUTS {
-        return Err(barred(
-            Refusal::Cuts(count.met(Place::Node)),
-            Place::Node,
-            fuel,
-            count,
-        ));
+        return Err(barred(Refusal::Cuts, Place::Node, fuel, count));
     }
     let x = cut_of(&state.table.rows[h]);
     if x.is_constant() {
         return cut_constant(state, &x, fuel, count);
     }
     if state.context.made >= NEW {
-        return Err(barred(
-            Refusal::NewParameters(count.met(Place::Node)),
-            Place::Node,
-            fuel,
-            count,
-        ));
+        return Err(barred(Refusal::NewParameters, Place::Node, fuel, count));
     }
     cut_parameter(state, &x, fuel, work, count)
 }

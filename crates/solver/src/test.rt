@@ -60,12 +60,7 @@ fn cut_plain(
     ensures moved { IfOk result (Moved fuel count) }
 {
     if cuts >= CUTS {
-        return Err(barred(
-            Refusal::Cuts(count.met(Place::Test)),
-            Place::Test,
-            fuel,
-            count,
-        ));
+        return Err(barred(Refusal::Cuts, Place::Test, fuel, count));
     }
     let plain = cut_of(&t.rows[h]).row(None);
     let count = tick(Place::Test, fuel, count)?;

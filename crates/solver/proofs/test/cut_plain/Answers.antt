@@ -1,15 +1,14 @@
-use Rattle.std.proofs.Common.{◌≡◌, suc, ◌<◌, cond, ltb, [], get_or, None, Err, sym, ap, ◌∙◌, subst, arith, rules}
+use Rattle.std.proofs.Common.{◌≡◌, suc, ◌<◌, [], get_or, None, Err, sym, ap, ◌∙◌, subst, arith, rules}
 use Rattle.std.proofs.lemmas.Result.{err_from_is_err_and, IfOk-from_err}
 use Rattle.base.specs.declared.refusal.Place.TheVariants.{Test}
 use Rattle.tableau.specs.Cuts.{cut_of, cut_row}
-use Rattle.base.specs.declared.refusal.Refusal.TheVariants.{Cuts, FuelSpent}
 use Rattle.tableau.specs.Tables.{no_row}
 use Rattle.solver.specs.Bounds.{ConstForm}
 use Rattle.solver.specs.Rules.{with_row}
-use Rattle.solver.specs.Runs.{met_at, next}
+use Rattle.solver.specs.Runs.{next}
 use Rattle.solver.specs.Ties.{limits, test_of, tested}
 use Rattle.solver.proofs.Constants.{const-at, const-cut-row}
-use Rattle.solver.proofs.Cutting.{cut-many, once_ticked, test-cut-is}
+use Rattle.solver.proofs.Cutting.{barred-is, cut-many, once_ticked, test-cut-is}
 use Rattle.solver.proofs.Testing.{tested-is}
 use Rattle.solver.proofs.test.cut_plain.Goals as goal
 
@@ -20,7 +19,7 @@ returns-then-cuts-ge-CUTS c =
     record {
       value = λ again n.
           cut-many Test again (test_of t c.args.cuts) (cut_of row) c.args.fuel n c.args.count (omega (arith, c.requires.few))
-          ∙ ap Err (ap (λ m. cond (ltb c.args.count.steps c.args.fuel) (Cuts m) (FuelSpent (met_at Test c.args.count))) (sym c.met.ensures) ∙ sym c.barred.ensures.value);
+          ∙ ap Err (barred-is _ _ _ _ _ c.barred.ensures.value);
       constants = tt;
       ready = tt;
       counts = tt;
