@@ -8,7 +8,7 @@ ghost use Rattle.solver.specs.Tests.{test_row, unit_row, unit_rows};
 ghost use Rattle.solver.specs.Ties.{rest};
 
 use crate::context::Context;
-use base::form::{CONSTANT, Form};
+use base::form::{CONSTANT, FIRST_NEW, Form};
 use std::array;
 use tableau::table::{Row, Table};
 
@@ -18,9 +18,6 @@ pub const BLANK: Row = Row {
     form: [0; 10],
     div: 1,
 };
-
-/// The place of the first new parameter in a form.
-pub const FIRST_NEW: usize = 4;
 
 /// The row of an unknown: itself.
 fn unit(h: usize) -> Row
