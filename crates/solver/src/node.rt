@@ -10,7 +10,6 @@ ghost use Rattle.solver.specs.Ends.{Planted, splitting};
 ghost use Rattle.solver.specs.Rules.{node, where_form};
 ghost use Rattle.solver.specs.Ties.{limits, solution_of, work_of};
 
-use crate::context::join;
 use crate::count::{Count, barred, tick};
 use crate::settle::{End, narrow, settle, write};
 use crate::state::State;
@@ -110,5 +109,5 @@ fn branch(state: &mut State, form: &Form) -> bool
     ensures once { state.old.left ≡ suc state.new.left }
 {
     state.left -= 1;
-    join(&mut state.context, form)
+    state.context.join(form)
 }

@@ -3,12 +3,12 @@ ghost use Rattle.std.specs.Prelude.{◌≡◌, ◌+◌, ◌-◌, ◌^◌, ◌<�
 ghost use Rattle.base.specs.Numbers.{AllWithin};
 ghost use Rattle.tableau.specs.Rows.{Sound};
 ghost use Rattle.tableau.specs.Tables.{Ready};
-ghost use Rattle.solver.specs.Bounds.{ContextReady, CountsFit, StateReady};
+ghost use Rattle.solver.specs.Bounds.{CountsFit, StateReady};
 ghost use Rattle.solver.specs.Solves.{fitted, form_of, row_of};
 ghost use Rattle.solver.specs.Tests.{zeros};
 ghost use Rattle.solver.specs.Ties.{ContextRead, Started, TableRead, counts_read, form_read, row_read};
 
-use crate::context::{Context, join, open_context};
+use crate::context::Context;
 use crate::node::DEPTH;
 use crate::start::{push_row, unit_table};
 use crate::state::State;
@@ -160,14 +160,13 @@ fn read_context<S: Source>(source: &S, c: Counts) -> Result<Context, Refusal>
     requires fits { CountsFit c }
     requires rows { c.k ≡ length (S.meaning source.now).context }
     ensures answer { ContextRead c.m c.p (S.meaning source.now).context result }
-    ensures ready { IfOk result ContextReady }
     ensures counts { IfOk result (λ x. (x.count ≤ c.k) × (x.made ≡ 0)) }
 {
-    let mut ctx = open_context(c.p);
+    let mut ctx = Context::open(c.p);
     for i in 0..c.k {
         let form = read_form(source, c, i)?;
         // numbers within the limits of a system are in range
-        let _ = join(&mut ctx, &form);
+        let _ = ctx.join(&form);
     }
     Ok(ctx)
 }

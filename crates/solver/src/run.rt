@@ -1,7 +1,7 @@
 //! A solve from end to end: the context's own test, head and keeps, the tree.
 ghost use Rattle.std.specs.Prelude.{◌≡◌, ℕ, ◌+◌, ◌≤◌, ◌∷◌, map, length, replicate, IfOk, OnOk};
 ghost use Rattle.tree.specs.declared.node.Node.TheVariants.{Head, Keep, None as Blank};
-ghost use Rattle.solver.specs.Bounds.{ContextReady, StateReady, Stepped, in_force};
+ghost use Rattle.solver.specs.Bounds.{StateReady, Stepped, in_force};
 ghost use Rattle.solver.specs.Ends.{Rooted};
 ghost use Rattle.solver.specs.Solves.{context_of, keeps, run, solve_answer, solved, work_after};
 ghost use Rattle.solver.specs.Ties.{Wrote, counted, limits, work_of};
@@ -29,7 +29,6 @@ pub struct Solved {
 
 /// The keeps of a tree: the context rows of its system.
 fn write_keeps(ctx: &Context, work: &mut [Node], start: Count) -> Result<Count, Refusal>
-    requires { ContextReady ctx.now }
     ensures value { (fuel : ℕ) → keeps (in_force ctx.now) (limits fuel (length work.old)) start ≡ counted result }
     ensures left { OnOk result (Wrote work.old start.nodes (map Keep (in_force ctx.now)) work.new) }
     ensures nodes { IfOk result (λ c. c.nodes ≡ start.nodes + length (map Keep (in_force ctx.now))) }

@@ -11,7 +11,6 @@ ghost use Rattle.solver.specs.Rules.{Work, cut, settle, solving};
 ghost use Rattle.solver.specs.Runs.{Run, next};
 ghost use Rattle.solver.specs.Ties.{WroteIf, limits, noted_in, work_of};
 
-use crate::context::join;
 use crate::count::{Count, barred, tick};
 use crate::sign::{Scan, scan_rows};
 use crate::state::State;
@@ -85,7 +84,7 @@ fn make_parameter(
     )?;
     let floor = by.lower(q);
     let ceiling = by.upper(q);
-    if !join(&mut state.context, &floor) || !join(&mut state.context, &ceiling) {
+    if !state.context.join(&floor) || !state.context.join(&ceiling) {
         return Err(Refusal::Range(count.met(Place::Node)));
     }
     state.context.made += 1;

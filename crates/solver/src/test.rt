@@ -5,12 +5,12 @@ ghost use Rattle.base.specs.declared.refusal.Place.TheVariants.{Test};
 ghost use Rattle.tableau.specs.Cuts.{cut_of};
 ghost use Rattle.tableau.specs.Tables.{Ready, in_use, no_row};
 ghost use Rattle.tree.specs.Trees.{Tree};
-ghost use Rattle.solver.specs.Bounds.{AllConst, ContextReady, Moved, SameContext, Stepped, in_force};
+ghost use Rattle.solver.specs.Bounds.{AllConst, Moved, SameContext, Stepped, in_force};
 ghost use Rattle.solver.specs.Rules.{Work, cut, test, test_with};
 ghost use Rattle.solver.specs.Runs.{Run, next};
 ghost use Rattle.solver.specs.Ties.{KnownAs, first_negative, limits, test_of, tested};
 
-use crate::context::{Added, Context, join};
+use crate::context::{Added, Context};
 use crate::count::{Count, barred, tick};
 use crate::start::test_table;
 use crate::turn::{add_row, turn};
@@ -69,7 +69,6 @@ fn cut_plain(
 
 /// Inner: whether some setting of the parameters and the new ones so far meets the context.
 pub fn test(ctx: &Context, fuel: u32, start: Count) -> Result<(bool, Count), Refusal>
-    requires ready { ContextReady ctx.now }
     requires within { start.steps ≤ fuel }
     requires fuel { fuel ≤ 100000 }
     ensures value { (n : ℕ) → test ctx.now.parameters ctx.now.made (in_force ctx.now) (limits fuel n) start ≡ result }
@@ -102,7 +101,6 @@ pub fn test_with(
     fuel: u32,
     count: Count,
 ) -> Result<(bool, Count), Refusal>
-    requires ready { ContextReady ctx.old }
     requires room { ctx.old.count < 31 }
     requires within { count.steps ≤ fuel }
     requires fuel { fuel ≤ 100000 }
@@ -112,7 +110,7 @@ pub fn test_with(
     ensures stepped { IfOk result (λ v. Stepped fuel count v.1) }
 {
     let rows = ctx.count;
-    if !join(ctx, form) {
+    if !ctx.join(form) {
         return Err(Refusal::Range(count.met(Place::Test)));
     }
     let guard = Added { ctx, count: rows };

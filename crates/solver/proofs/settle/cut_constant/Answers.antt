@@ -8,7 +8,7 @@ use Rattle.solver.specs.Rules.{with_row}
 use Rattle.solver.specs.Runs.{next}
 use Rattle.solver.specs.Ties.{limits, work_of}
 use Rattle.solver.proofs.Cutting.{cut-plain, once_ticked}
-use Rattle.solver.proofs.Settling.{worked-after}
+use Rattle.solver.proofs.Settling.{worked-new}
 use Rattle.solver.proofs.settle.cut_constant.Goals as goal
 
 pub returns-in_err-next : goal.returns-in_err-next
@@ -35,7 +35,7 @@ returns c =
           ∙ ap (λ o. once_ticked o (with_row Node again (work_of x) (in_force x.context) x.context.made (cut_row (numbers c.args.x.now) None) (limits c.args.fuel n))) (sym c.in_ok-next.ensures.value)
           ∙ ap (λ r. with_row Node again (work_of x) (in_force x.context) x.context.made r (limits c.args.fuel n) c.in_ok-next.next) (sym c.row.ensures.value)
           ∙ c.add_row.ensures.value again (work_of x) (in_force x.context) x.context.made n
-          ∙ ap (λ o. next o again (limits c.args.fuel n)) (worked-after x x.context c.add_row.new.t c.add_row.result);
+          ∙ ap (λ o. next o again (limits c.args.fuel n)) (worked-new x x c.add_row.new.t c.add_row.result refl refl);
       ready = search rules;
       left = refl;
       nodes = search rules;

@@ -51,7 +51,7 @@ returns-then-state-ge-NEW c =
         [],
         tt,
         λ again.
-            cut-fifth again (work_of x) (cut_of row) c.args.fuel (length w) c.args.count (omega (arith, c.requires.ready.cuts)) (ap is_constant (sym c.cut_of-x.ensures) ∙ sym c.if-is_constant.ensures) (omega (arith, c.requires.ready.context.new))
+            cut-fifth again (work_of x) (cut_of row) c.args.fuel (length w) c.args.count (omega (arith, c.requires.ready.cuts)) (ap is_constant (sym c.cut_of-x.ensures) ∙ sym c.if-is_constant.ensures) (omega (arith, c.args.state.now.context.few_made))
             ∙ ap Err (barred-is _ _ _ _ _ c.barred-then-state-ge-NEW.ensures.value),
       );
       ready = tt;
