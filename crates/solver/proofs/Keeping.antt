@@ -108,14 +108,3 @@ within-written xs i z f small all = within-set (2 ^ 30) xs i (to_z w64 (of_z w64
 
 pub within-drop : (m n : ℕ) (xs : List ℤ) → AllWithin m xs → AllWithin m (drop n xs)
 within-drop m n xs h k = rw (get_or-drop n xs k (pos 0)) (h (n + k))
-
--- a state after a new parameter was made: two rows joined the context
-pub state-new : (s : State) (y : Context) → StateReady s → y.count ≡ s.context.count + 2 → y.made ≡ suc s.context.made → StateReady (record { table = s.table; context = y; cuts = s.cuts; left = s.left })
-state-new s y r e f =
-    record {
-      table = r.table;
-      unknowns = r.unknowns;
-      cuts = r.cuts;
-      rows = r.rows;
-      forms = omega (arith, e, f, r.forms);
-    }

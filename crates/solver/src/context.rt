@@ -41,6 +41,7 @@ impl Context {
         }
     }
 
+    // a bool: step and place of the refusal are known to the caller alone
     /// Inner: makes a context row of the form and adds it; false, and nothing added, where it is out of
     /// range. Every row of a context is made here.
     pub fn join(&mut self, form: &Form) -> bool

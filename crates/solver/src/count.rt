@@ -7,6 +7,7 @@ ghost use Rattle.solver.specs.Ties.{ticked};
 
 use base::refusal::{Met, Place, Refusal};
 
+// The fuel is no part of it: each contract would have to say that the limit is the same before and after.
 /// The steps made and the nodes written so far.
 #[derive(Clone, Copy)]
 pub struct Count {

@@ -54,6 +54,7 @@ fn run_state(state: &mut State, fuel: u32, work: &mut [Node]) -> Result<Count, R
     if !met {
         return Err(Refusal::NoParameterPoint);
     }
+    // `as`: proved to fit; `try_from` would add a refusal that never comes
     let n = state.table.unknowns as u8;
     let p = state.context.parameters as u8;
     let count = write(work, Node::Head { n, p }, count)?;
@@ -69,6 +70,7 @@ fn read_and_run<S: Source>(source: &S, work: &mut [Node], fuel: i64) -> Result<C
     if fuel < 0 || fuel > FUEL {
         return Err(Refusal::Fuel);
     }
+    // `as`: the test above leaves 0 to FUEL
     run_state(&mut state, fuel as u32, work)
 }
 

@@ -15,7 +15,7 @@ use crate::count::{Count, barred, tick};
 use crate::sign::{Scan, scan_rows};
 use crate::state::State;
 use crate::test::CUTS;
-use crate::turn::{add_row, turn};
+use crate::turn::{add_cut, add_row, turn};
 use base::form::{FIRST_NEW, Form};
 use base::refusal::{Place, Refusal};
 use tableau::column::pivot_place;
@@ -38,6 +38,7 @@ pub fn narrow(form: &Form) -> NodeForm
     requires { AllWithin (2 ^ 30) form.now }
     ensures value { result ≡ form.now }
 {
+    // `as`: numbers in range fit; `try_from` would add a refusal that never comes
     form.map(|x| x as i32)
 }
 
@@ -102,9 +103,8 @@ fn cut_constant(state: &mut State, x: &Cut, fuel: u32, count: Count) -> Result<C
     ensures nodes { IfOk result (λ c. c.nodes ≡ count.nodes) }
     ensures moved { IfOk result (Moved fuel count) }
 {
-    let next = tick(Place::Node, fuel, count)?;
     state.cuts += 1;
-    add_row(&mut state.table, x.row(None), Place::Node, fuel, next)
+    add_cut(&mut state.table, x, Place::Node, fuel, count)
 }
 
 /// The cut with a new parameter.

@@ -11,9 +11,9 @@ ghost use Rattle.solver.specs.Runs.{Run, next};
 ghost use Rattle.solver.specs.Ties.{KnownAs, first_negative, limits, test_of, tested};
 
 use crate::context::{Added, Context};
-use crate::count::{Count, barred, tick};
+use crate::count::{Count, barred};
 use crate::start::test_table;
-use crate::turn::{add_row, turn};
+use crate::turn::{add_cut, turn};
 use base::form::{CONSTANT, Form};
 use base::refusal::{Place, Refusal};
 use tableau::column::pivot_place;
@@ -62,11 +62,11 @@ fn cut_plain(
     if cuts >= CUTS {
         return Err(barred(Refusal::Cuts, Place::Test, fuel, count));
     }
-    let plain = cut_of(&t.rows[h]).row(None);
-    let count = tick(Place::Test, fuel, count)?;
-    add_row(t, plain, Place::Test, fuel, count)
+    let x = cut_of(&t.rows[h]);
+    add_cut(t, &x, Place::Test, fuel, count)
 }
 
+// The answer is yes or no, beside the count that each result carries.
 /// Inner: whether some setting of the parameters and the new ones so far meets the context.
 pub fn test(ctx: &Context, fuel: u32, start: Count) -> Result<(bool, Count), Refusal>
     requires within { start.steps ≤ fuel }
