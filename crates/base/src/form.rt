@@ -8,6 +8,9 @@ use crate::number::negate;
 /// Coefficients of parameters 1 to 4, of new parameters 1 to 5, then a constant; unused ones are 0.
 pub type Form = [i64; 10];
 
+/// The place of the first new parameter.
+pub const FIRST_NEW: usize = 4;
+
 /// The place of the constant.
 pub const CONSTANT: usize = 9;
 

@@ -1,16 +1,11 @@
 -- A cut, as the rules have it.
-use Rattle.std.proofs.Common.{◌≡◌, ℕ, suc, ◌+◌, ◌<◌, Bool, true, false, cond, ◌&&◌, eqb, ltb, List, [], ◌∷◌, ◌++◌, length, ℤ, Some, None, Ok, Err, Result, sym, refl, ap, ◌∙◌, inl, inr, arith}
+use Rattle.std.proofs.Common.{◌≡◌, ℕ, suc, ◌+◌, ◌<◌, Bool, true, false, cond, ◌&&◌, eqb, ltb, MatchBool, List, [], ◌∷◌, ◌++◌, length, ℤ, Some, None, Ok, Err, Result, sym, refl, ap, ◌∙◌, inl, inr, arith}
 use Rattle.std.proofs.lemmas.Bool.{eq-eqb, ne_eqb}
 use Rattle.base.specs.declared.refusal.Met.{Met}
 use Rattle.base.specs.declared.refusal.Place.{Place}
 use Rattle.base.specs.declared.refusal.Refusal.{Refusal}
 use Rattle.base.specs.declared.refusal.Refusal.TheVariants.{FuelSpent, Cuts, NewParameters}
-use Rattle.tableau.specs.declared.table.Row.{Row}
-use Rattle.tableau.specs.declared.table.Table.{Table}
-use Rattle.tableau.specs.Cuts.{CutNumbers, cut_of, cut_row, is_constant}
-use Rattle.base.specs.declared.refusal.Place.TheVariants.{Test}
-use Rattle.solver.specs.Bounds.{ConstForm}
-use Rattle.solver.proofs.Constants.{const-cut}
+use Rattle.tableau.specs.Cuts.{CutNumbers, cut_row, is_constant}
 use Rattle.tree.specs.Trees.{Tree}
 use Rattle.solver.specs.declared.count.Count.{Count}
 use Rattle.solver.specs.Runs.{Limits, Outcome, Run, next, ◌>>◌, bar, met_at, stepped, tick}
@@ -26,7 +21,7 @@ use Rattle.solver.specs.Runs.{◌>>=◌, refuse, return, write}
 use Rattle.solver.specs.Rules.{ranged}
 use Rattle.tree.specs.declared.node.Node.{Node as TreeNode}
 use Rattle.solver.specs.Bounds.{in_force}
-use Rattle.solver.specs.Ties.{counted, limits, noted_in, test_of, ticked, work_of}
+use Rattle.solver.specs.Ties.{counted, limits, noted_in, ticked, work_of}
 use Rattle.solver.proofs.Writing.{write_then}
 
 -- what follows a step that may be refused
@@ -50,6 +45,11 @@ bar-is {A} why place fuel room c = go (ltb c.steps fuel)
     go true = refl
     go false = refl
 
+-- the refusal that the code gives there
+pub barred-is : (M : Type 0) (b : Bool) (r why spent : Refusal) → MatchBool b (M × (r ≡ why)) (r ≡ spent) → cond b why spent ≡ r
+barred-is M true r why spent h = sym h.1
+barred-is M false r why spent h = sym h
+
 module _ (place : Place) (again : Work → Run Tree) (s : Work) (x : CutNumbers) (fuel room : ℕ) (c : Count) where
   pub cut-many : s.cuts ≡ 24 → cut place again s x (limits fuel room) c ≡ Err (cond (ltb c.steps fuel) (Cuts (met_at place c)) (FuelSpent (met_at place c)))
   unfolding cut
@@ -61,12 +61,6 @@ module _ (place : Place) (again : Work → Run Tree) (s : Work) (x : CutNumbers)
       ap (λ b. cond b (bar Cuts place) (cond (is_constant x) (cut_plain place again s x) (cond (eqb s.made 5) (bar NewParameters place) (cut_new place again s x))) (limits fuel room) c) (ne_eqb s.cuts 24 (λ e. let no : ⊥ = omega (arith, e) in no))
       ∙ ap (λ b. cond b (cut_plain place again s x) (cond (eqb s.made 5) (bar NewParameters place) (cut_new place again s x)) (limits fuel room) c) k
       ∙ tick-then place (with_row place again s s.context s.made (cut_row x None)) fuel room c
-
--- the cut of a test, once it may be made
-pub test-cut-is : (again : Work → Run Tree) (t : Table) (cuts : ℕ) (row r : Row) (fuel n : ℕ) (c : Count) → cuts < 24 → ConstForm row → r ≡ cut_row (cut_of row) None → cut Test again (test_of t cuts) (cut_of row) (limits fuel n) c ≡ once_ticked (ticked Test fuel c) (with_row Test again (test_of t cuts) [] 0 r (limits fuel n))
-test-cut-is again t cuts row r fuel n c few k e =
-    cut-plain Test again (test_of t cuts) (cut_of row) fuel n c few (const-cut row k)
-    ∙ ap (λ x. once_ticked (ticked Test fuel c) (with_row Test again (test_of t cuts) [] 0 x (limits fuel n))) (sym e)
 
 -- ---- a cut with a new parameter, at a node
 once-next : {A : Type 0} (r : Result Count Refusal) (m : Run A) (l : Limits) → next (counted r) (λ _. m) l ≡ once_ticked r (m l)

@@ -1,6 +1,6 @@
 -- What is kept as rows and forms are written: small numbers, sound rows.
 use Rattle.std.proofs.Common.{◌≡◌, ℕ, zero, suc, ◌+◌, ◌^◌, ◌<◌, ◌≤◌, ◌≢◌, List, [], ◌∷◌, map, length, get_or, drop, set, replicate, ℤ, pos, negsuc, nat_abs, sym, refl, ap, ◌∙◌, subst, ⊎_elim, div-le_self, arith, w64, SFits, to_z, of_z}
-use Rattle.std.proofs.lemmas.List.{get_or-set_same, get_or-set_other, get_or-drop, get_or-take, set_past}
+use Rattle.std.proofs.lemmas.List.{get_or-set_same, get_or-set_other, get_or-drop, set_past}
 use Rattle.std.proofs.lemmas.Int.{ints, to_z-of_z}
 use Rattle.std.proofs.lemmas.Bool.{cases_eq, cases_lt}
 use Rattle.base.specs.Numbers.{AllWithin, at, gcds, quot_by}
@@ -13,7 +13,7 @@ use Rattle.tableau.specs.Tables.{Ready, no_row}
 use Rattle.solver.specs.declared.context.Context.{Context}
 use Rattle.solver.specs.declared.count.Count.{Count}
 use Rattle.solver.specs.declared.state.State.{State}
-use Rattle.solver.specs.Bounds.{ContextReady, SameContext, StateReady, Stepped}
+use Rattle.solver.specs.Bounds.{SameContext, StateReady, Stepped}
 
 -- a fact of each place of a list holds after a write of a value that has it
 pub each_set : {X : Type 0} (P : X → Type 0) (d : X) (n : ℕ) (xs : List X) (i : ℕ) (v : X) → P v → ((k : ℕ) → k < n → P (get_or xs k d)) → (k : ℕ) → k < n → i < length xs → P (get_or (set xs i v) k d)
@@ -63,30 +63,6 @@ ready-push t row long room r s =
       sound = each-push Sound no_row t.count t.rows row (omega arith) s r.sound;
     }
 
-pub context-push : (c : Context) (form : List ℤ) → length c.forms ≡ 31 → c.count < 31 → ContextReady c → AllWithin (2 ^ 30) form → ContextReady (record { forms = set c.forms c.count form; count = c.count + 1; parameters = c.parameters; made = c.made })
-context-push c form long room r s =
-    record {
-      room = omega arith;
-      few = r.few;
-      new = r.new;
-      small = each-push (AllWithin (2 ^ 30)) [] c.count c.forms form (omega arith) s r.small;
-    }
-
--- the same rows in force are as small
-pub context-same : (c d : Context) → SameContext c d → ContextReady c → ContextReady d
-context-same c d s r =
-    record {
-      room = omega (arith, s.count, r.room);
-      few = omega (arith, s.parameters, r.few);
-      new = omega (arith, s.made, r.new);
-      small = λ k below. subst (AllWithin (2 ^ 30)) (front k below) (r.small k (omega (arith, s.count)));
-    }
-  where
-    front : (k : ℕ) → k < d.count → get_or c.forms k [] ≡ get_or d.forms k []
-    front k below =
-        let here : k < c.count = omega (arith, s.count) in
-        sym (get_or-take c.count c.forms k [] here) ∙ ap (λ l. get_or l k []) (sym s.rows) ∙ get_or-take d.count d.forms k [] below
-
 pub same_refl : (c : Context) → SameContext c c
 same_refl c = record { count = refl; rows = refl; parameters = refl; made = refl }
 
@@ -108,7 +84,6 @@ state-turned s t c r ready e same =
       unknowns = omega (arith, e.1, r.unknowns);
       cuts = r.cuts;
       rows = omega (arith, e.0, r.rows);
-      context = context-same s.context c same r.context;
       forms = omega (arith, same.count, same.made, r.forms);
     }
 
@@ -133,15 +108,3 @@ within-written xs i z f small all = within-set (2 ^ 30) xs i (to_z w64 (of_z w64
 
 pub within-drop : (m n : ℕ) (xs : List ℤ) → AllWithin m xs → AllWithin m (drop n xs)
 within-drop m n xs h k = rw (get_or-drop n xs k (pos 0)) (h (n + k))
-
--- a state after a new parameter was made: two rows joined the context
-pub state-new : (s : State) (y : Context) → StateReady s → s.context.made < 5 → ContextReady y → y.count ≡ s.context.count + 2 → y.made ≡ s.context.made → StateReady (record { table = s.table; context = record { forms = y.forms; count = y.count; parameters = y.parameters; made = y.made + 1 }; cuts = s.cuts; left = s.left })
-state-new s y r few k e f =
-    record {
-      table = r.table;
-      unknowns = r.unknowns;
-      cuts = r.cuts;
-      rows = r.rows;
-      context = record { room = k.room; few = k.few; new = omega (arith, f); small = k.small };
-      forms = omega (arith, e, f, r.forms);
-    }

@@ -26,10 +26,6 @@ use Rattle.solver.proofs.Testing.{frac-none, fraction-at, settle_is}
 use Rattle.solver.proofs.Turning.{both_used, place_none, place-some}
 
 -- the work after a cut
-pub worked-after : (x : State) (y : Context) (t : Table) (r : Result Count Refusal) → moved t (after_cut (work_of x) (in_force y) y.made) r ≡ worked (record { table = t; context = record { forms = y.forms; count = y.count; parameters = x.context.parameters; made = y.made }; cuts = x.cuts + 1; left = x.left }) r
-worked-after x y t (Ok c) = ap (λ n. Ok (record { top = top t; rest = rest t; context = in_force y; parameters = x.context.parameters; made = y.made; cuts = n }, c)) (sym (add-one x.cuts))
-worked-after x y t (Err e) = refl
-
 pub worked-new : (x y : State) (t : Table) (r : Result Count Refusal) → y.context.parameters ≡ x.context.parameters → y.cuts ≡ x.cuts → moved t (after_cut (work_of x) (in_force y.context) y.context.made) r ≡ worked (record { table = t; context = y.context; cuts = y.cuts + 1; left = y.left }) r
 worked-new x y t (Ok c) e f = λ k. Ok (record { top = top t; rest = rest t; context = in_force y.context; parameters = sym e k; made = y.context.made; cuts = sym (add-one y.cuts ∙ ap suc f) k }, c)
 worked-new x y t (Err q) e f = refl

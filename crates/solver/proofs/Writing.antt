@@ -1,6 +1,6 @@
 -- Nodes written into the work table, one run of them after another.
 use Rattle.std.proofs.Common.{◌≡◌, ℕ, suc, ◌+◌, ◌-◌, ◌<◌, ◌≤◌, Bool, true, false, cond, ltb, List, [], ◌∷◌, ◌++◌, map, length, get_or, take, drop, set, replicate, ℤ, pos, Ok, Err, sym, refl, ap, ◌∙◌, subst, add-one, arith}
-use Rattle.std.proofs.lemmas.List.{append_assoc, append-nil, at_drop_all, at_drop_more, drop_all, drop_at, drop-drop, drop_more, length-append, length-drop, length-map, length-replicate, length-take-le, map_more, replicate_more, set_at, set_split, take_all, take-append-drop, take_at}
+use Rattle.std.proofs.lemmas.List.{append_assoc, at_drop_all, at_drop_more, drop_at, drop-drop, length-append, length-drop, length-map, length-take-le, map_more, set_at, set_split, take_all, take-append-drop, take_at}
 use Rattle.std.proofs.lemmas.Bool.{ltb-true}
 use Rattle.base.specs.declared.refusal.Place.TheVariants.{Node}
 use Rattle.base.specs.declared.refusal.Refusal.{Refusal}
@@ -92,17 +92,6 @@ pub leaf-all : (rows : List Row) (h : ℕ) (forms : List (List ℤ)) → h ≤ l
 leaf-all rows h forms inside f =
     let l : length (map solution_of (take h rows)) ≡ h = length-map (take h rows) solution_of ∙ length-take-le h rows inside in
     f ∙ ap (λ n. map solution_of (take h rows) ++ replicate (6 - n) (replicate 10 (pos 0))) (sym l)
-
--- ---- blank nodes, one after another
-pub blank-more : {X : Type 0} (xs ys : List X) (n : ℕ) (v : X) → n < length xs → ys ≡ replicate n v ++ drop n xs → set ys n v ≡ replicate (n + 1) v ++ drop (n + 1) xs
-blank-more xs ys n v inside e =
-    ap (λ l. set l n v) (e ∙ ap (λ l. replicate n v ++ l) (drop_more xs n v inside))
-    ∙ set_at (replicate n v) (get_or xs n v) (drop (n + 1) xs) v n (length-replicate n v)
-    ∙ sym (append_assoc (replicate n v) (v ∷ []) (drop (n + 1) xs))
-    ∙ ap (λ l. l ++ drop (n + 1) xs) (replicate_more n v)
-
-pub blank-all : {X : Type 0} (xs ys : List X) (n : ℕ) (v : X) → n ≡ length xs → ys ≡ replicate n v ++ drop n xs → ys ≡ replicate (length xs) v
-blank-all xs ys n v end e = e ∙ ap (λ l. replicate n v ++ l) (drop_all n xs (omega arith)) ∙ append-nil (replicate n v) ∙ ap (λ m. replicate m v) end
 
 -- ---- the keeps, one after another
 -- a node that was counted had room

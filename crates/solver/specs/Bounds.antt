@@ -1,6 +1,6 @@
 -- What the work keeps: room for every row, numbers in range, steps within the fuel.
-use Rattle.std.specs.Prelude.{◌≡◌, ℕ, ◌+◌, ◌*◌, ◌^◌, ◌<◌, ◌≤◌, List, [], ◌∷◌, take, ℤ, pos, slice_index_or}
-use Rattle.base.specs.Numbers.{AllWithin, at}
+use Rattle.std.specs.Prelude.{◌≡◌, ℕ, ◌+◌, ◌*◌, ◌<◌, ◌≤◌, List, [], ◌∷◌, take, ℤ, pos}
+use Rattle.base.specs.Numbers.{at}
 use Rattle.tableau.specs.declared.table.Row.{Row}
 use Rattle.tableau.specs.Tables.{Ready}
 use Rattle.solver.specs.declared.context.Context.{Context}
@@ -15,13 +15,6 @@ use Rattle.solver.specs.declared.state.State.{State}
 abbrev pub in_force : Context → List (List ℤ)
 in_force c = take c.count c.forms
 
--- a context whose forms are in range
-pub record ContextReady (c : Context) : Type 0 where
-  pub room : c.count ≤ 31
-  pub few : c.parameters ≤ 4
-  pub new : c.made ≤ 5
-  pub small : (k : ℕ) → k < c.count → AllWithin (2 ^ 30) (slice_index_or c.forms k [])
-
 -- a state of the work: 6 unknowns, 16 rows and the cuts are in the table; 8 forms at the
 -- start, one of each split and two of each new parameter are in the context
 pub record StateReady (s : State) : Type 0 where
@@ -29,7 +22,6 @@ pub record StateReady (s : State) : Type 0 where
   pub unknowns : s.table.unknowns ≤ 6
   pub cuts : s.cuts ≤ 24
   pub rows : s.table.count ≤ 22 + s.cuts
-  pub context : ContextReady s.context
   pub forms : s.context.count + s.left ≤ 20 + 2 * s.context.made
 
 -- the count goes on from another, within the fuel, and as many nodes are written

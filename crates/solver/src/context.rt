@@ -1,7 +1,6 @@
 //! The context: what is known of the parameters.
-ghost use Rattle.std.specs.Prelude.{◌≡◌, ◌+◌, ◌<◌, ◌≤◌, [], ◌∷◌, ◌++◌, take, if◌then◌else◌};
-ghost use Rattle.base.specs.Numbers.{within};
-ghost use Rattle.solver.specs.Bounds.{ContextReady, in_force};
+ghost use Rattle.std.specs.Prelude.{◌≡◌, ℕ, ◌^◌, ◌<◌, ◌≤◌, [], slice_index_or};
+ghost use Rattle.base.specs.Numbers.{AllWithin};
 
 use base::form::Form;
 use base::number::in_range;
@@ -10,54 +9,63 @@ use base::number::in_range;
 /// that a test adds.
 pub const FORMS: usize = 31;
 
-/// Each of the first `count` forms is at least 0. The first `parameters` places of a form are in use,
-/// and `made` of the places of new parameters.
+/// Each of the first `count` forms is at least 0; their numbers are in range. The first `parameters`
+/// places of a form are in use, and `made` of the places of new parameters.
 #[derive(Clone, Copy)]
 pub struct Context {
     pub forms: [Form; 31],
     pub count: usize,
     pub parameters: usize,
     pub made: usize,
+    ghost room: { count ≤ 31 },
+    ghost few: { parameters ≤ 4 },
+    ghost few_made: { made ≤ 5 },
+    ghost small: { (k : ℕ) → k < count → AllWithin (2 ^ 30) (slice_index_or forms k []) },
 }
 
-/// Inner: a context that says nothing.
-pub fn open_context(parameters: usize) -> Context
-    requires { parameters ≤ 4 }
-    ensures ready { ContextReady result }
-    ensures counts { (result.count ≡ 0) × (result.parameters ≡ parameters) × (result.made ≡ 0) }
-{
-    Context {
-        forms: [[0; 10]; 31],
-        count: 0,
-        parameters,
-        made: 0,
-    }
-}
+impl Context {
+    ghost use Rattle.std.specs.Prelude.{◌≡◌, ◌+◌, ◌<◌, ◌≤◌, [], ◌∷◌, ◌++◌, take, if◌then◌else◌};
+    ghost use Rattle.base.specs.Numbers.{within};
+    ghost use Rattle.solver.specs.Bounds.{in_force};
 
-/// Inner: makes a context row of the form and adds it; false, and nothing added, where it is out of
-/// range. Every row of a context is made here.
-pub fn join(ctx: &mut Context, form: &Form) -> bool
-    requires ready { ContextReady ctx.old }
-    requires room { ctx.old.count < 31 }
-    ensures answer { result ≡ within form.now }
-    ensures ready { ContextReady ctx.new }
-    ensures rows { in_force ctx.new ≡ (if result then in_force ctx.old ++ form.now ∷ [] else in_force ctx.old) }
-    ensures kept { take ctx.old.count ctx.new.forms ≡ in_force ctx.old }
-    ensures counts { (ctx.new.count ≡ (if result then ctx.old.count + 1 else ctx.old.count)) × (ctx.new.parameters ≡ ctx.old.parameters) × (ctx.new.made ≡ ctx.old.made) }
-{
-    if !in_range(form) {
-        return false;
+    /// Inner: a context that says nothing.
+    pub fn open(parameters: usize) -> Context
+        requires { parameters ≤ 4 }
+        ensures { (result.count ≡ 0) × (result.parameters ≡ parameters) × (result.made ≡ 0) }
+    {
+        Context {
+            forms: [[0; 10]; 31],
+            count: 0,
+            parameters,
+            made: 0,
+        }
     }
-    let count = ctx.count;
-    ctx.forms[count] = *form;
-    ctx.count = count + 1;
-    true
+
+    // a bool: step and place of the refusal are known to the caller alone
+    /// Inner: makes a context row of the form and adds it; false, and nothing added, where it is out of
+    /// range. Every row of a context is made here.
+    pub fn join(&mut self, form: &Form) -> bool
+        requires { self.old.count < 31 }
+        ensures answer { result ≡ within form.now }
+        ensures rows { in_force self.new ≡ (if result then in_force self.old ++ form.now ∷ [] else in_force self.old) }
+        ensures kept { take self.old.count self.new.forms ≡ in_force self.old }
+        ensures counts { (self.new.count ≡ (if result then self.old.count + 1 else self.old.count)) × (self.new.parameters ≡ self.old.parameters) × (self.new.made ≡ self.old.made) }
+    {
+        if !in_range(form) {
+            return false;
+        }
+        let count = self.count;
+        self.forms[count] = *form;
+        self.count = count + 1;
+        true
+    }
 }
 
 /// While it stands the context may have further rows; then its row count is as it was.
 pub struct Added<'a> {
     pub ctx: &'a mut Context,
     pub count: usize,
+    ghost fewer: { count ≤ ctx.now.count },
 }
 
 impl Drop for Added<'_> {

@@ -1,5 +1,5 @@
 //! Steps and nodes, counted in each result.
-ghost use Rattle.std.specs.Prelude.{◌≡◌, IfOk, if◌then◌else◌, nat_lt};
+ghost use Rattle.std.specs.Prelude.{◌≡◌, IfOk, MatchBool, nat_lt};
 ghost use Rattle.base.specs.declared.refusal.Refusal.TheVariants.{FuelSpent};
 ghost use Rattle.solver.specs.Bounds.{Moved};
 ghost use Rattle.solver.specs.Runs.{met_at};
@@ -7,6 +7,7 @@ ghost use Rattle.solver.specs.Ties.{ticked};
 
 use base::refusal::{Met, Place, Refusal};
 
+// The fuel is no part of it: each contract would have to say that the limit is the same before and after.
 /// The steps made and the nodes written so far.
 #[derive(Clone, Copy)]
 pub struct Count {
@@ -48,12 +49,15 @@ pub fn tick(place: Place, fuel: u32, count: Count) -> Result<Count, Refusal>
     })
 }
 
-/// Inner: the refusal of a step that may not be made: spent fuel is said first.
-pub fn barred(refusal: Refusal, place: Place, fuel: u32, count: Count) -> Refusal
-    ensures value { result ≡ (if nat_lt count.steps fuel then refusal else FuelSpent (met_at place count)) }
+/// Inner: the refusal of a step that may not be made, by its case: spent fuel is said first.
+pub fn barred<F: FnOnce(Met) -> Refusal>(why: F, place: Place, fuel: u32, count: Count) -> Refusal
+    requires { F.IsAlwaysCallable why }
+    ensures value { MatchBool (nat_lt count.steps fuel) (F.post why (met_at place count) result) (result ≡ FuelSpent (met_at place count)) }
 {
-    if !has_fuel(fuel, count) {
-        return Refusal::FuelSpent(count.met(place));
+    let met = count.met(place);
+    if has_fuel(fuel, count) {
+        why(met)
+    } else {
+        Refusal::FuelSpent(met)
     }
-    refusal
 }

@@ -10,7 +10,6 @@ ghost use Rattle.solver.specs.Ends.{Planted, splitting};
 ghost use Rattle.solver.specs.Rules.{node, where_form};
 ghost use Rattle.solver.specs.Ties.{limits, solution_of, work_of};
 
-use crate::context::join;
 use crate::count::{Count, barred, tick};
 use crate::settle::{End, narrow, settle, write};
 use crate::state::State;
@@ -82,12 +81,7 @@ fn split(
     ensures stepped { IfOk result (Stepped fuel start) }
 {
     if state.left == 0 {
-        return Err(barred(
-            Refusal::Depth(start.met(Place::Node)),
-            Place::Node,
-            fuel,
-            start,
-        ));
+        return Err(barred(Refusal::Depth, Place::Node, fuel, start));
     }
     let form = state.table.rows[h].form;
     let count = tick(Place::Node, fuel, start)?;
@@ -115,5 +109,5 @@ fn branch(state: &mut State, form: &Form) -> bool
     ensures once { state.old.left ≡ suc state.new.left }
 {
     state.left -= 1;
-    join(&mut state.context, form)
+    state.context.join(form)
 }

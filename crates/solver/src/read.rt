@@ -5,12 +5,12 @@ ghost use Rattle.source.specs.Counted.{counted};
 ghost use Rattle.source.specs.Limits.{numbers_answer};
 ghost use Rattle.tableau.specs.Rows.{Sound};
 ghost use Rattle.tableau.specs.Tables.{Ready};
-ghost use Rattle.solver.specs.Bounds.{ContextReady, StateReady};
+ghost use Rattle.solver.specs.Bounds.{StateReady};
 ghost use Rattle.solver.specs.Solves.{fitted, form_of, row_of};
 ghost use Rattle.solver.specs.Tests.{zeros};
 ghost use Rattle.solver.specs.Ties.{ContextRead, Started, TableRead, counts_read, form_read, row_read};
 
-use crate::context::{Context, join, open_context};
+use crate::context::Context;
 use crate::node::DEPTH;
 use crate::start::{push_row, unit_table};
 use crate::state::State;
@@ -148,14 +148,13 @@ fn read_table<S: Source>(source: &S, c: Counts) -> Result<Table, Refusal>
 fn read_context<S: Source>(source: &S, c: Counts) -> Result<Context, Refusal>
     requires { c.k ≡ length (S.meaning source.now).context }
     ensures answer { ContextRead c.m c.p (S.meaning source.now).context result }
-    ensures ready { IfOk result ContextReady }
     ensures counts { IfOk result (λ x. (x.count ≤ c.k) × (x.made ≡ 0)) }
 {
-    let mut ctx = open_context(c.p);
+    let mut ctx = Context::open(c.p);
     for i in 0..c.k {
         let form = read_form(source, c, i)?;
         // numbers within the limits of a system are in range
-        let _ = join(&mut ctx, &form);
+        let _ = ctx.join(&form);
     }
     Ok(ctx)
 }

@@ -1,7 +1,7 @@
 //! A solve from end to end: the context's own test, head and keeps, the tree.
 ghost use Rattle.std.specs.Prelude.{◌≡◌, ℕ, ◌+◌, ◌≤◌, ◌∷◌, map, length, replicate, IfOk, OnOk};
 ghost use Rattle.tree.specs.declared.node.Node.TheVariants.{Head, Keep, None as Blank};
-ghost use Rattle.solver.specs.Bounds.{ContextReady, StateReady, Stepped, in_force};
+ghost use Rattle.solver.specs.Bounds.{StateReady, Stepped, in_force};
 ghost use Rattle.solver.specs.Ends.{Rooted};
 ghost use Rattle.solver.specs.Solves.{context_of, keeps, run, solve_answer, solved, work_after};
 ghost use Rattle.solver.specs.Ties.{Wrote, counted, limits, work_of};
@@ -29,7 +29,6 @@ pub struct Solved {
 
 /// The keeps of a tree: the context rows of its system.
 fn write_keeps(ctx: &Context, work: &mut [Node], start: Count) -> Result<Count, Refusal>
-    requires { ContextReady ctx.now }
     ensures value { (fuel : ℕ) → keeps (in_force ctx.now) (limits fuel (length work.old)) start ≡ counted result }
     ensures left { OnOk result (Wrote work.old start.nodes (map Keep (in_force ctx.now)) work.new) }
     ensures nodes { IfOk result (λ c. c.nodes ≡ start.nodes + length (map Keep (in_force ctx.now))) }
@@ -55,6 +54,7 @@ fn run_state(state: &mut State, fuel: u32, work: &mut [Node]) -> Result<Count, R
     if !met {
         return Err(Refusal::NoParameterPoint);
     }
+    // `as`: proved to fit; `try_from` would add a refusal that never comes
     let n = state.table.unknowns as u8;
     let p = state.context.parameters as u8;
     let count = write(work, Node::Head { n, p }, count)?;
@@ -70,6 +70,7 @@ fn read_and_run<S: Source>(source: &S, work: &mut [Node], fuel: i64) -> Result<C
     if fuel < 0 || fuel > FUEL {
         return Err(Refusal::Fuel);
     }
+    // `as`: the test above leaves 0 to FUEL
     run_state(&mut state, fuel as u32, work)
 }
 

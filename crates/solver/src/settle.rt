@@ -11,14 +11,12 @@ ghost use Rattle.solver.specs.Rules.{Work, cut, settle, solving};
 ghost use Rattle.solver.specs.Runs.{Run, next};
 ghost use Rattle.solver.specs.Ties.{WroteIf, limits, noted_in, work_of};
 
-use crate::context::join;
 use crate::count::{Count, barred, tick};
 use crate::sign::{Scan, scan_rows};
-use crate::start::FIRST_NEW;
 use crate::state::State;
 use crate::test::CUTS;
-use crate::turn::{add_row, turn};
-use base::form::Form;
+use crate::turn::{add_cut, add_row, turn};
+use base::form::{FIRST_NEW, Form};
 use base::refusal::{Place, Refusal};
 use tableau::column::pivot_place;
 use tableau::cut::{Cut, cut_of, first_fraction};
@@ -40,6 +38,7 @@ pub fn narrow(form: &Form) -> NodeForm
     requires { AllWithin (2 ^ 30) form.now }
     ensures value { result ≡ form.now }
 {
+    // `as`: numbers in range fit; `try_from` would add a refusal that never comes
     form.map(|x| x as i32)
 }
 
@@ -86,7 +85,7 @@ fn make_parameter(
     )?;
     let floor = by.lower(q);
     let ceiling = by.upper(q);
-    if !join(&mut state.context, &floor) || !join(&mut state.context, &ceiling) {
+    if !state.context.join(&floor) || !state.context.join(&ceiling) {
         return Err(Refusal::Range(count.met(Place::Node)));
     }
     state.context.made += 1;
@@ -104,9 +103,8 @@ fn cut_constant(state: &mut State, x: &Cut, fuel: u32, count: Count) -> Result<C
     ensures nodes { IfOk result (λ c. c.nodes ≡ count.nodes) }
     ensures moved { IfOk result (Moved fuel count) }
 {
-    let next = tick(Place::Node, fuel, count)?;
     state.cuts += 1;
-    add_row(&mut state.table, x.row(None), Place::Node, fuel, next)
+    add_cut(&mut state.table, x, Place::Node, fuel, count)
 }
 
 /// The cut with a new parameter.
@@ -150,24 +148,14 @@ fn cut_row(
     ensures moved { IfOk result (Moved fuel count) }
 {
     if state.cuts >= CUTS {
-        return Err(barred(
-            Refusal::Cuts(count.met(Place::Node)),
-            Place::Node,
-            fuel,
-            count,
-        ));
+        return Err(barred(Refusal::Cuts, Place::Node, fuel, count));
     }
     let x = cut_of(&state.table.rows[h]);
     if x.is_constant() {
         return cut_constant(state, &x, fuel, count);
     }
     if state.context.made >= NEW {
-        return Err(barred(
-            Refusal::NewParameters(count.met(Place::Node)),
-            Place::Node,
-            fuel,
-            count,
-        ));
+        return Err(barred(Refusal::NewParameters, Place::Node, fuel, count));
     }
     cut_parameter(state, &x, fuel, work, count)
 }

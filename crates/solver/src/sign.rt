@@ -2,7 +2,7 @@
 ghost use Rattle.std.specs.Prelude.{◌≡◌, ℕ, ◌+◌, ◌^◌, ◌<◌, ◌≤◌, not, ◌&&◌, pos, IfOk, int_le, int_lt};
 ghost use Rattle.base.specs.Numbers.{AllWithin, at};
 ghost use Rattle.tableau.specs.Tables.{Ready, in_use};
-ghost use Rattle.solver.specs.Bounds.{ContextReady, SameContext, ScanBelow, Stepped};
+ghost use Rattle.solver.specs.Bounds.{SameContext, ScanBelow, Stepped};
 ghost use Rattle.solver.specs.Rules.{Work, none_above, none_below, scan, sign_in};
 ghost use Rattle.solver.specs.Ties.{KnownAs, first_unsure, limits, scanned_at};
 
@@ -58,7 +58,6 @@ pub fn sign_of(
     count: Count,
 ) -> Result<(Sign, Count), Refusal>
     requires small { AllWithin (2 ^ 30) form.now }
-    requires ready { ContextReady ctx.old }
     requires room { ctx.old.count < 31 }
     requires within { count.steps ≤ fuel }
     requires fuel { fuel ≤ 100000 }
@@ -94,7 +93,6 @@ pub fn scan_rows(
     start: Count,
 ) -> Result<(Scan, Count), Refusal>
     requires table { Ready t.now }
-    requires ready { ContextReady ctx.old }
     requires room { ctx.old.count < 31 }
     requires within { start.steps ≤ fuel }
     requires fuel { fuel ≤ 100000 }

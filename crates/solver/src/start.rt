@@ -3,12 +3,12 @@ ghost use Rattle.std.specs.Prelude.{◌≡◌, ◌+◌, ◌^◌, ◌<◌, ◌≤
 ghost use Rattle.base.specs.Numbers.{AllWithin, at};
 ghost use Rattle.tableau.specs.Rows.{Sound};
 ghost use Rattle.tableau.specs.Tables.{Ready, in_use, no_row, top};
-ghost use Rattle.solver.specs.Bounds.{ContextReady, in_force};
+ghost use Rattle.solver.specs.Bounds.{in_force};
 ghost use Rattle.solver.specs.Tests.{test_row, unit_row, unit_rows};
 ghost use Rattle.solver.specs.Ties.{rest};
 
 use crate::context::Context;
-use base::form::{CONSTANT, Form};
+use base::form::{CONSTANT, FIRST_NEW, Form};
 use std::array;
 use tableau::table::{Row, Table};
 
@@ -18,9 +18,6 @@ pub const BLANK: Row = Row {
     form: [0; 10],
     div: 1,
 };
-
-/// The place of the first new parameter in a form.
-pub const FIRST_NEW: usize = 4;
 
 /// The row of an unknown: itself.
 fn unit(h: usize) -> Row
@@ -109,7 +106,6 @@ fn test_row(form: &Form, parameters: usize, made: usize) -> Row
 /// Inner: the table of a test: its unknowns are the parameters and the new ones so far, its rows the
 /// context.
 pub fn test_table(ctx: &Context) -> Table
-    requires { ContextReady ctx.now }
     ensures rows { in_use result ≡ unit_rows 0 (ctx.now.parameters + ctx.now.made) ++ map (test_row ctx.now.parameters ctx.now.made) (in_force ctx.now) }
     ensures ready { Ready result }
     ensures counts { (result.count ≡ ctx.now.parameters + ctx.now.made + ctx.now.count) × (result.unknowns ≡ ctx.now.parameters + ctx.now.made) }

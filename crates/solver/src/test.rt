@@ -5,15 +5,15 @@ ghost use Rattle.base.specs.declared.refusal.Place.TheVariants.{Test};
 ghost use Rattle.tableau.specs.Cuts.{cut_of};
 ghost use Rattle.tableau.specs.Tables.{Ready, in_use, no_row};
 ghost use Rattle.tree.specs.Trees.{Tree};
-ghost use Rattle.solver.specs.Bounds.{AllConst, ContextReady, Moved, SameContext, Stepped, in_force};
+ghost use Rattle.solver.specs.Bounds.{AllConst, Moved, SameContext, Stepped, in_force};
 ghost use Rattle.solver.specs.Rules.{Work, cut, test, test_with};
 ghost use Rattle.solver.specs.Runs.{Run, next};
 ghost use Rattle.solver.specs.Ties.{KnownAs, first_negative, limits, test_of, tested};
 
-use crate::context::{Added, Context, join};
-use crate::count::{Count, barred, tick};
+use crate::context::{Added, Context};
+use crate::count::{Count, barred};
 use crate::start::test_table;
-use crate::turn::{add_row, turn};
+use crate::turn::{add_cut, turn};
 use base::form::{CONSTANT, Form};
 use base::refusal::{Place, Refusal};
 use tableau::column::pivot_place;
@@ -60,21 +60,15 @@ fn cut_plain(
     ensures moved { IfOk result (Moved fuel count) }
 {
     if cuts >= CUTS {
-        return Err(barred(
-            Refusal::Cuts(count.met(Place::Test)),
-            Place::Test,
-            fuel,
-            count,
-        ));
+        return Err(barred(Refusal::Cuts, Place::Test, fuel, count));
     }
-    let plain = cut_of(&t.rows[h]).row(None);
-    let count = tick(Place::Test, fuel, count)?;
-    add_row(t, plain, Place::Test, fuel, count)
+    let x = cut_of(&t.rows[h]);
+    add_cut(t, &x, Place::Test, fuel, count)
 }
 
+// The answer is yes or no, beside the count that each result carries.
 /// Inner: whether some setting of the parameters and the new ones so far meets the context.
 pub fn test(ctx: &Context, fuel: u32, start: Count) -> Result<(bool, Count), Refusal>
-    requires ready { ContextReady ctx.now }
     requires within { start.steps ≤ fuel }
     requires fuel { fuel ≤ 100000 }
     ensures value { (n : ℕ) → test ctx.now.parameters ctx.now.made (in_force ctx.now) (limits fuel n) start ≡ result }
@@ -107,7 +101,6 @@ pub fn test_with(
     fuel: u32,
     count: Count,
 ) -> Result<(bool, Count), Refusal>
-    requires ready { ContextReady ctx.old }
     requires room { ctx.old.count < 31 }
     requires within { count.steps ≤ fuel }
     requires fuel { fuel ≤ 100000 }
@@ -117,7 +110,7 @@ pub fn test_with(
     ensures stepped { IfOk result (λ v. Stepped fuel count v.1) }
 {
     let rows = ctx.count;
-    if !join(ctx, form) {
+    if !ctx.join(form) {
         return Err(Refusal::Range(count.met(Place::Test)));
     }
     let guard = Added { ctx, count: rows };

@@ -1,10 +1,11 @@
 //! The two moves on a table: a pivot, and a row added and pivoted on.
-ghost use Rattle.std.specs.Prelude.{◌≡◌, ℕ, ◌+◌, ◌<◌, ◌≤◌, List, ℤ, IfOk, OnOk, slice_index_or};
+ghost use Rattle.std.specs.Prelude.{◌≡◌, ℕ, ◌+◌, ◌<◌, ◌≤◌, true, List, ℤ, None, IfOk, OnOk, slice_index_or};
+ghost use Rattle.tableau.specs.Cuts.{cut_row, is_constant, numbers};
 ghost use Rattle.tableau.specs.Rows.{Sound};
 ghost use Rattle.tableau.specs.Tables.{PivotAt, Ready, in_use, no_row};
 ghost use Rattle.tree.specs.Trees.{Tree};
 ghost use Rattle.solver.specs.Bounds.{AllConst, ConstForm, Moved, Stepped};
-ghost use Rattle.solver.specs.Rules.{Work, turn, with_row};
+ghost use Rattle.solver.specs.Rules.{Work, cut, turn, with_row};
 ghost use Rattle.solver.specs.Runs.{Run, next};
 ghost use Rattle.solver.specs.Ties.{after_cut, limits, moved, with_table};
 
@@ -12,6 +13,7 @@ use crate::count::{Count, tick};
 use crate::start::push_row;
 use base::refusal::{Place, Refusal};
 use tableau::column::pivot_place;
+use tableau::cut::Cut;
 use tableau::pivot::pivot;
 use tableau::row::fits;
 use tableau::table::{Row, Table};
@@ -68,4 +70,25 @@ pub fn add_row(
         Some(spot) => turn(t, spot, place, fuel, count),
         None => Ok(count),
     }
+}
+
+/// Inner: the cut of a constant T, which needs no new parameter: one step.
+pub fn add_cut(
+    t: &mut Table,
+    x: &Cut,
+    place: Place,
+    fuel: u32,
+    count: Count,
+) -> Result<Count, Refusal>
+    requires ready { Ready t.old }
+    requires room { t.old.count < 64 }
+    ensures value { (again : Work → Run Tree) (s : Work) (n : ℕ) → s.cuts < 24 → is_constant (numbers x.now) ≡ true → cut place again (with_table t.old s) (numbers x.now) (limits fuel n) count ≡ next (moved t.new (after_cut s s.context s.made) result) again (limits fuel n) }
+    ensures constants { AllConst (in_use t.old) → ConstForm (cut_row (numbers x.now) None) → OnOk result (AllConst (in_use t.new)) }
+    ensures ready { OnOk result (Ready t.new) }
+    ensures counts { OnOk result ((t.new.count ≡ t.old.count + 1) × (t.new.unknowns ≡ t.old.unknowns)) }
+    ensures nodes { IfOk result (λ c. c.nodes ≡ count.nodes) }
+    ensures moved { IfOk result (Moved fuel count) }
+{
+    let next = tick(place, fuel, count)?;
+    add_row(t, x.row(None), place, fuel, next)
 }

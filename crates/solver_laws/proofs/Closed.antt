@@ -8,9 +8,8 @@ use Rattle.base.specs.declared.refusal.Refusal.{Refusal}
 use Rattle.base.specs.declared.refusal.Refusal.TheVariants.{Cuts, Depth, FuelSpent, NewParameters, NoParameterPoint, Range}
 use Rattle.base.specs.Forms.{opposite}
 use Rattle.base.specs.Numbers.{at}
-use Rattle.tableau.specs.Cuts.{CutNumbers as Cut}
 use Rattle.tableau.specs.declared.table.Row.{Row}
-use Rattle.tableau.specs.Cuts.{is_constant}
+use Rattle.tableau.specs.Cuts.{CutNumbers, is_constant}
 use Rattle.tree.specs.Trees.{Tree, leaf, new, none, split}
 use Rattle.solver.specs.declared.sign.Sign.{Sign}
 use Rattle.solver.specs.declared.sign.Sign.TheVariants.{NonNegative, Negative, Unknown}
@@ -135,15 +134,15 @@ module _ (P : Property) (T : TreeProperty) (g : Grows P T) where
     unfolding with_row
     of_row s context q r = g.followed _ n place (ranged place _) _ (of-ranged place _) (of-added _ r _)
 
-    of_plain : (s : Work) (c : Cut) → T (suc n) place (cut_plain place again s c)
+    of_plain : (s : Work) (c : CutNumbers) → T (suc n) place (cut_plain place again s c)
     unfolding cut_plain
     of_plain s c = g.step_followed n place _ (of_row s _ _ _)
 
-    of-new : (s : Work) (c : Cut) → T (suc n) place (cut_new place again s c)
+    of-new : (s : Work) (c : CutNumbers) → T (suc n) place (cut_new place again s c)
     unfolding cut_new
     of-new s c = g.step_followed n place _ (g.new_below n place _ _ (ranged place _) _ (of-ranged place _) (of_row s _ _ _))
 
-    of_cut : (s : Work) (c : Cut) → T (suc n) place (cut place again s c)
+    of_cut : (s : Work) (c : CutNumbers) → T (suc n) place (cut place again s c)
     unfolding cut
     of_cut s c =
         let named : Run Tree = cond (eqb s.made 5) (bar NewParameters place) (cut_new place again s c) in

@@ -21,6 +21,7 @@ fn divisor_of(row: &Row) -> Divisor
     ensures value { result.value ≡ pos (gcd_of row.now) }
     ensures below { result.value ≤ℤ row.now.div }
 {
+    // `as`: the greatest divisor is no larger than the row's own, so no second way out is needed
     let g = gcd_of(row.div.unsigned_abs(), &row.coefs);
     Divisor {
         value: gcd_of(g, &row.form) as i64,
@@ -74,6 +75,7 @@ pub fn combine(p: Pair, xs: &mut [i64], ys: &[i64])
     requires small_ys { AllWithin (2 ^ 30) ys.now }
     ensures { xs.new ≡ combined p.a p.b xs.old ys.now }
 {
+    // by place and not by a zip with ys: of what is written through one, no value is known afterwards
     for (k, x) in xs.iter_mut().enumerate() {
         *x = cross(p, *x, ys[k]);
     }

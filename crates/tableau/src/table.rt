@@ -7,6 +7,7 @@ pub const COLUMNS: usize = 9;
 /// The rows that a table has room for.
 pub const ROWS: usize = 64;
 
+// A pivot leaves rows in the table that are out of range, and says so: `Sound` and `Ready` cannot stand in the types.
 /// A row says that `div` times its value is `coefs` times the basic unknowns, plus `form`.
 #[derive(Clone, Copy)]
 pub struct Row {

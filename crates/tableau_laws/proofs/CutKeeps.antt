@@ -4,8 +4,7 @@ use borrow.Author.Differences.{ints}
 use Rattle.std.proofs.lemmas.List.{length-map, map-append}
 use Rattle.base.specs.Numbers.{at, mod_by}
 use Rattle.tableau.specs.declared.table.Row.{Row}
-use Rattle.tableau.specs.Cuts.{CutNumbers as Cut}
-use Rattle.tableau.specs.Cuts.{cut_form, cut_of, cut_row, is_constant}
+use Rattle.tableau.specs.Cuts.{CutNumbers, cut_form, cut_of, cut_row, is_constant}
 use Rattle.algebra.proofs.Naturals.{nonneg-append}
 use Rattle.tableau_laws.specs.Lines.{Above, AllSay, In, Line, Says, Unused, under}
 use Rattle.tableau_laws.specs.Facts.{Facts, Linked, Point, Reached, Right}
@@ -57,7 +56,7 @@ facts-more n sys top rest h f d more = record {
 lines_more : (ρ : List ℤ) (rs : List Row) (r : Row) → map (under ρ) (rs ++ (r ∷ [])) ≡ map (under ρ) rs ++ (under ρ r ∷ [])
 lines_more ρ rs r = map-append (under ρ) rs (r ∷ [])
 
-length-form : (c : Cut) (new : Option ℕ) → length (cut_form c new) ≡ length c.form
+length-form : (c : CutNumbers) (new : Option ℕ) → length (cut_form c new) ≡ length c.form
 length-form c None = length-map c.form _
 length-form c (Some q) = length-set (map _ c.form) q c.div ∙ length-map c.form _
 

@@ -1,7 +1,7 @@
-use Rattle.std.proofs.Common.{◌≡◌, cond, ltb, [], ◌∷◌, map, length, get_or, Ok, Err, sym, refl, ap, ◌∙◌, subst, arith, rules}
+use Rattle.std.proofs.Common.{◌≡◌, [], ◌∷◌, map, length, get_or, Ok, Err, sym, refl, ap, ◌∙◌, subst, arith, rules}
 use Rattle.std.proofs.lemmas.Result.{err_from_is_err_and, IfOk-from_err}
 use Rattle.base.specs.declared.refusal.Place.TheVariants.{Node}
-use Rattle.base.specs.declared.refusal.Refusal.TheVariants.{Depth, FuelSpent, Range}
+use Rattle.base.specs.declared.refusal.Refusal.TheVariants.{Range}
 use Rattle.base.specs.Forms.{opposite}
 use Rattle.base.specs.Numbers.{within}
 use Rattle.tableau.specs.Tables.{no_row, top}
@@ -10,8 +10,9 @@ use Rattle.tree.specs.Trees.{leaf, none}
 use Rattle.solver.specs.declared.settle.End.TheVariants.{Leaf, None as NoPoint, Split}
 use Rattle.solver.specs.Ends.{Planted, Settled, below_all, finishing, splitting}
 use Rattle.solver.specs.Rules.{node, where_form}
-use Rattle.solver.specs.Runs.{met_at, return, write, ◌>>◌}
+use Rattle.solver.specs.Runs.{return, write, ◌>>◌}
 use Rattle.solver.specs.Ties.{Wrote, limits, solution_of, work_of}
+use Rattle.solver.proofs.Cutting.{barred-is}
 use Rattle.solver.proofs.Planting.{below-refused, node-is, planted-end, planted-node, planted-split, some_left, split-barred, split-first, split-full, split-out, split-out-2, split-spent}
 use Rattle.solver.proofs.node.+node_split.Goals as goal
 
@@ -87,7 +88,7 @@ split-returns-then-state-eq0 t c =
     let l = limits c.args.fuel (length w) in
     record {
       value = split-barred x.left (work_of x) C c.args.fuel (length w) c.args.start (omega arith)
-          ∙ ap Err (ap (λ m. cond (ltb c.args.start.steps c.args.fuel) (Depth m) (FuelSpent (met_at Node c.args.start))) (sym c.met.ensures) ∙ sym c.barred.ensures.value);
+          ∙ ap Err (barred-is _ _ _ _ _ c.barred.ensures.value);
       stepped = tt;
     }
 
@@ -136,7 +137,7 @@ split-returns-then-not-branch t c =
     let b = c.if-not-branch.ensures in
     let m = c.branch-first.new.state.left in
     record {
-      value = ap (λ n. splitting n (work_of x) C l c.args.start) b.once ∙ split-out m (work_of x) C c.args.fuel (length w) c.args.start d ticks f wrote (sym b.value) ∙ ap (λ q. Err (Range q)) (sym c.met-then-not-branch.ensures);
+      value = ap (λ n. splitting n (work_of x) C l c.args.start) b.once ∙ split-out m (work_of x) C c.args.fuel (length w) c.args.start d ticks f wrote (sym b.value) ∙ ap (λ q. Err (Range q)) (sym c.met.ensures);
       stepped = tt;
     }
 

@@ -11,12 +11,12 @@ use Rattle.solver.proofs.read.read_context.Goals as goal
 
 pub loop-i-init : goal.loop-i-init
 loop-i-init g c =
-    let u = c.open_context-ctx.ensures in
+    let u = c.open-ctx.ensures in
     let m = c.args.c.m in
     let p = c.args.c.p in
     let rows = (g.S.Source.meaning c.args.source.now).context in
     let z : m + 0 ≡ m = omega arith in
-    (u.ready, u.counts.0, u.counts.2, u.counts.1, ap (λ n. take n c.open_context-ctx.result.forms) u.counts.0, ap (λ n. numbers_fit n (map (fitted (p + 1)) rows)) z)
+    (u.0, u.2, u.1, ap (λ n. take n c.open-ctx.result.forms) u.0, ap (λ n. numbers_fit n (map (fitted (p + 1)) rows)) z)
 
 pub loop-i-preserved : goal.loop-i-preserved
 loop-i-preserved g c =
@@ -35,12 +35,11 @@ loop-i-preserved g c =
     let t : c.join.result ≡ true = q.answer ∙ small-within x s in
     let old = c.loop-i.ctx in
     let z : m + k + 1 ≡ m + (k + 1) = omega arith in (
-      q.ready,
-      q.counts.0 ∙ ap (λ b. cond b (old.count + 1) old.count) t ∙ ap (λ n. n + 1) i.1,
-      q.counts.2 ∙ i.2,
-      q.counts.1 ∙ i.3,
-      q.rows ∙ ap (λ b. cond b (in_force old ++ x ∷ []) (in_force old)) t ∙ ap (λ l. l ++ x ∷ []) i.4 ∙ ap (λ y. map f (take k rows) ++ y ∷ []) v.1 ∙ sym (map_more f rows k [] h),
-      ap (λ n. numbers_fit n (map (fitted (p + 1)) (drop (k + 1) rows))) (sym z) ∙ sym (fit-more (fitted (p + 1)) (m + k) k rows h v.0) ∙ i.5,
+      q.counts.0 ∙ ap (λ b. cond b (old.count + 1) old.count) t ∙ ap (λ n. n + 1) i.0,
+      q.counts.2 ∙ i.1,
+      q.counts.1 ∙ i.2,
+      q.rows ∙ ap (λ b. cond b (in_force old ++ x ∷ []) (in_force old)) t ∙ ap (λ l. l ++ x ∷ []) i.3 ∙ ap (λ y. map f (take k rows) ++ y ∷ []) v.1 ∙ sym (map_more f rows k [] h),
+      ap (λ n. numbers_fit n (map (fitted (p + 1)) (drop (k + 1) rows))) (sym z) ∙ sym (fit-more (fitted (p + 1)) (m + k) k rows h v.0) ∙ i.4,
     )
 
 pub returns-in_err-form : goal.returns-in_err-form
@@ -56,8 +55,7 @@ returns-in_err-form g c =
     let v = then-err (numbers_answer (m + k) row) (form_of p row) d (sym c.in_err-form.was ∙ c.read_form.ensures.answer) in
     let q = err_from_is_err_and c.from_residual.result c.from_residual.ensures.1 in
     record {
-      answer = rw (q.1, q.2) (sym i.5 ∙ fit-stop (fitted (p + 1)) (m + k) k rows d h v);
-      ready = search rules;
+      answer = rw (q.1, q.2) (sym i.4 ∙ fit-stop (fitted (p + 1)) (m + k) k rows d h v);
       counts = search rules;
     }
 
@@ -71,7 +69,6 @@ returns g c =
     let f : List ℤ → List ℤ = λ r. form_of p (fitted (p + 1) r) in
     let e : k ≡ length rows = omega (arith, c.requires) in
     record {
-      answer = (sym i.5 ∙ fit-end (fitted (p + 1)) (m + k) k rows (omega (arith, e)), i.4 ∙ ap (map f) (take_all k rows (omega (arith, e))), i.3, i.2);
-      ready = i.0;
-      counts = (omega (arith, i.1, e, c.requires), i.2);
+      answer = (sym i.4 ∙ fit-end (fitted (p + 1)) (m + k) k rows (omega (arith, e)), i.3 ∙ ap (map f) (take_all k rows (omega (arith, e))), i.2, i.1);
+      counts = (omega (arith, i.0, e, c.requires), i.1);
     }

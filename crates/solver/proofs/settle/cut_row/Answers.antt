@@ -1,12 +1,10 @@
-use Rattle.std.proofs.Common.{cond, ltb, [], ◌∷◌, length, get_or, Err, sym, refl, ap, ◌∙◌, arith}
+use Rattle.std.proofs.Common.{[], ◌∷◌, length, get_or, Err, sym, refl, ap, ◌∙◌, arith}
 use Rattle.base.specs.declared.refusal.Place.TheVariants.{Node}
-use Rattle.base.specs.declared.refusal.Refusal.TheVariants.{Cuts, FuelSpent, NewParameters}
 use Rattle.tableau.specs.Cuts.{cut_of, is_constant}
 use Rattle.tableau.specs.Tables.{no_row}
 use Rattle.solver.specs.Rules.{cut}
-use Rattle.solver.specs.Runs.{met_at}
 use Rattle.solver.specs.Ties.{limits, work_of}
-use Rattle.solver.proofs.Cutting.{cut-fifth, cut-many}
+use Rattle.solver.proofs.Cutting.{barred-is, cut-fifth, cut-many}
 use Rattle.solver.proofs.Settling.{noted-none}
 use Rattle.solver.proofs.settle.cut_row.Goals as goal
 
@@ -21,7 +19,7 @@ returns-then-state-ge-CUTS c =
         tt,
         λ again.
             cut-many Node again (work_of x) (cut_of row) c.args.fuel (length w) c.args.count (omega (arith, c.requires.ready.cuts))
-            ∙ ap Err (ap (λ m. cond (ltb c.args.count.steps c.args.fuel) (Cuts m) (FuelSpent (met_at Node c.args.count))) (sym c.met.ensures) ∙ sym c.barred.ensures.value),
+            ∙ ap Err (barred-is _ _ _ _ _ c.barred.ensures.value),
       );
       ready = tt;
       left = refl;
@@ -53,8 +51,8 @@ returns-then-state-ge-NEW c =
         [],
         tt,
         λ again.
-            cut-fifth again (work_of x) (cut_of row) c.args.fuel (length w) c.args.count (omega (arith, c.requires.ready.cuts)) (ap is_constant (sym c.cut_of-x.ensures) ∙ sym c.if-is_constant.ensures) (omega (arith, c.requires.ready.context.new))
-            ∙ ap Err (ap (λ m. cond (ltb c.args.count.steps c.args.fuel) (NewParameters m) (FuelSpent (met_at Node c.args.count))) (sym c.met-then-state-ge-NEW.ensures) ∙ sym c.barred-then-state-ge-NEW.ensures.value),
+            cut-fifth again (work_of x) (cut_of row) c.args.fuel (length w) c.args.count (omega (arith, c.requires.ready.cuts)) (ap is_constant (sym c.cut_of-x.ensures) ∙ sym c.if-is_constant.ensures) (omega (arith, c.args.state.now.context.few_made))
+            ∙ ap Err (barred-is _ _ _ _ _ c.barred-then-state-ge-NEW.ensures.value),
       );
       ready = tt;
       left = refl;

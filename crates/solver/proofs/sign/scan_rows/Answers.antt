@@ -7,7 +7,7 @@ use Rattle.solver.specs.declared.sign.Scan.{Scan as Found}
 use Rattle.solver.specs.Bounds.{SameContext, ScanBelow, Stepped}
 use Rattle.solver.specs.Rules.{Work, scan, sign_in}
 use Rattle.solver.specs.Ties.{KnownAs, limits, scanned_at}
-use Rattle.solver.proofs.Keeping.{context-same, same_refl, same-trans, stepped-refl, stepped-trans}
+use Rattle.solver.proofs.Keeping.{same_refl, same-trans, stepped-refl, stepped-trans}
 use Rattle.solver.proofs.Signing.{NotYet, below-unsure, below-up, known_same, not-yet-unsure, remembered, remembers-end, scan-broken, scan-end, scan-negative, scan-nonnegative, scan-unknown}
 use Rattle.solver.proofs.Turning.{used-more}
 use Rattle.solver.proofs.sign.scan_rows.Goals as goal
@@ -23,7 +23,6 @@ sign_of-requires c =
     let lt : c.loop-h.h < t.count = omega (arith, length-take t.count t.rows) in
     record {
       small = subst (λ r. AllWithin (2 ^ 30) r.form) (sym (get_or-take t.count t.rows c.loop-h.h no_row lt)) (c.requires.table.sound c.loop-h.h lt).form_small;
-      ready = context-same c.args.ctx.now c.loop-h.ctx i.0 c.requires.ready;
       room = omega (arith, i.0.count, c.requires.room);
       within = i.2.within;
       fuel = c.requires.fuel;

@@ -3,7 +3,7 @@ use Rattle.std.proofs.lemmas.Result.{err_from_is_err_and, IfOk-from_err}
 use Rattle.solver.specs.declared.sign.Sign.TheVariants.{Negative, Unknown}
 use Rattle.solver.specs.Rules.{test_with}
 use Rattle.solver.specs.Ties.{limits}
-use Rattle.solver.proofs.Keeping.{context-same, same_refl, same-trans, stepped-refl, stepped-trans}
+use Rattle.solver.proofs.Keeping.{same_refl, same-trans, stepped-refl, stepped-trans}
 use Rattle.solver.proofs.Signing.{above-done, known_same, sign-broken, sign-negative, sign-nonnegative, sign-not-below, sign-second}
 use Rattle.solver.proofs.sign.sign_of.Goals as goal
 
@@ -52,7 +52,6 @@ pub test_with-requires-2 : goal.test_with-requires-2
 test_with-requires-2 c =
     let k = c.test_with.ensures.kept in
     record {
-      ready = context-same c.args.ctx.now c.test_with.new.ctx k c.requires.ready;
       room = omega (arith, k.count, c.requires.room);
       within = c.in_ok-below.ensures.stepped.within;
       fuel = c.requires.fuel;

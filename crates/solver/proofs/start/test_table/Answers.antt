@@ -29,7 +29,7 @@ returns c =
     let i = c.loop-form.invariant in
     let ctx = c.args.ctx.now in
     let n : length ctx.forms ≡ 31 = search rules in
-    let e : c.loop-form.form-index ≡ ctx.count = omega (arith, length-take ctx.count ctx.forms, c.requires.room) in
+    let e : c.loop-form.form-index ≡ ctx.count = omega (arith, length-take ctx.count ctx.forms, ctx.room) in
     record {
       rows = i.3 ∙ ap (λ n. unit_rows 0 (ctx.parameters + ctx.made) ++ map (test_row ctx.parameters ctx.made) (take n ctx.forms)) e;
       ready = i.0;

@@ -18,7 +18,7 @@ loop-i-init c =
     let q = c.test_table-t.ensures in (
       q.ready,
       omega arith,
-      omega (arith, q.counts.0, c.requires.ready.room, c.requires.ready.few, c.requires.ready.new),
+      omega (arith, q.counts.0, x.room, x.few, x.few_made),
       record { more = omega arith; within = c.requires.within },
       subst AllConst (sym q.rows) (const-join _ _ (const-units 0 (x.parameters + x.made)) (const-tests x.parameters x.made (in_force x))),
       (100_001, omega (arith, c.requires.fuel), λ n. ap (λ w. settle testing 100_001 w (limits c.args.fuel n) c.args.start) (test-begins x t q.counts.1 q.ready.inside q.rows)),

@@ -17,7 +17,7 @@ returns-then-not-join c =
 
 pub returns : goal.returns
 returns c =
-    let x = c.join.new.ctx in
+    let x = c.join.new.self in
     let j = c.if-not-join.ensures in
     let d = c.drop-guard.ensures in
     record {
