@@ -248,8 +248,5 @@ pub fn check(page: &[u8]) -> Result<usize, Refusal>
     ensures written { WrittenAccepted page.now result }
     ensures refused { Refused page.now result }
 {
-    match whole(page) {
-        Ok(count) => Ok(count),
-        Err(fault) => Err(refusal(fault.flaw, page.len() - fault.at.len())),
-    }
+    whole(page).map_err(|fault| refusal(fault.flaw, page.len() - fault.at.len()))
 }
