@@ -1,4 +1,3 @@
-pub mod Opening
 pub mod Words
 pub mod Fitting
 pub mod Reading
