@@ -23,18 +23,15 @@ pub struct Placed<'a> {
 pub fn record_at<'a>(page: &'a [u8], offset: usize) -> Result<Placed<'a>, Refusal>
     ensures value { PlacedAt page.now offset result }
 {
-    if offset > page.len() {
+    let Some(rest) = page.get(offset..) else {
         return Err(Refusal::PageLength { offset });
-    }
-    let (_, rest) = page.split_at(offset);
-    match read(rest) {
-        Err(flaw) => Err(refusal(flaw, offset)),
-        Ok((found, after)) => Ok(Placed {
-            offset,
-            found,
-            next: page.len() - after.len(),
-        }),
-    }
+    };
+    let (found, after) = read(rest).map_err(|flaw| refusal(flaw, offset))?;
+    Ok(Placed {
+        offset,
+        found,
+        next: page.len() - after.len(),
+    })
 }
 
 /// Inner: the node of a record.
@@ -64,13 +61,13 @@ pub fn node_at(page: &[u8], i: usize) -> Node
 {
     let mut rest = page;
     for _ in 0..i {
-        match read(rest) {
-            Err(_) => return Node::None,
-            Ok((_, after)) => rest = after,
-        }
+        let Ok((_, after)) = read(rest) else {
+            return Node::None;
+        };
+        rest = after;
     }
     match read(rest) {
-        Err(_) => Node::None,
         Ok((found, _)) => node_of(found),
+        Err(_) => Node::None,
     }
 }

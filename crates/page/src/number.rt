@@ -12,6 +12,13 @@ const RANGE: u32 = 1 << 30;
 /// The largest divisor of a new parameter: 2^30.
 const LARGEST: i32 = 1 << 30;
 
+/// Inner: the number of four bytes.
+pub fn word_of(bytes: &[u8; 4]) -> i32
+    ensures value { result ≡ word bytes.now }
+{
+    i32::from_be_bytes(*bytes)
+}
+
 /// Inner: the ten numbers of a form.
 pub fn form_of(bytes: &[u8; 40]) -> NodeForm
     ensures value { result ≡ words 10 bytes.now }
@@ -19,7 +26,7 @@ pub fn form_of(bytes: &[u8; 40]) -> NodeForm
     let (words, _) = bytes.as_chunks::<4>();
     let mut form = [0; 10];
     for (k, word) in words.iter().enumerate() {
-        form[k] = i32::from_be_bytes(*word);
+        form[k] = word_of(word);
     }
     form
 }
@@ -31,7 +38,7 @@ pub fn new_of(bytes: &[u8; 44]) -> (i32, NodeForm)
 {
     let divisor = bytes.first_chunk().unwrap();
     let form = bytes.last_chunk().unwrap();
-    (i32::from_be_bytes(*divisor), form_of(form))
+    (word_of(divisor), form_of(form))
 }
 
 /// Inner: the six forms of a leaf.

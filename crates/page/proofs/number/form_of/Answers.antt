@@ -1,4 +1,4 @@
-use Rattle.std.proofs.Common.{◌≡◌, ◌*◌, ◌/◌, ◌<◌, ◌≢◌, [], length, get_or, drop, pos, ap, ◌∙◌, arith, length-set, get_or-set_other, get_or-set_same, to_z-of_z, w32, SFits, rules, below_more}
+use Rattle.std.proofs.Common.{◌/◌, ◌<◌, ◌≢◌, [], length, get_or, pos, ap, ◌∙◌, arith, length-set, get_or-set_other, get_or-set_same, to_z-of_z, w32, SFits, rules, below_more}
 use Rattle.page.specs.Words.{word}
 use Rattle.page.proofs.Chunks.{word-at}
 use Rattle.page.proofs.Words.{words-all}
@@ -8,9 +8,9 @@ pub loop-k-preserved : goal.loop-k-preserved
 loop-k-preserved c =
     let b = c.args.bytes.now in
     let k = c.loop-k.k in
-    let f : SFits w32 c.from_be_bytes.result = search rules in
+    let f : SFits w32 c.word_of.result = search rules in
     let h : k < length b / 4 = omega (arith, c.loop-k-test.true, c.as_chunks.ensures.front_len) in
-    let e = to_z-of_z {w = w32} f ∙ c.from_be_bytes.ensures ∙ ap (λ cs. word (get_or cs k [])) c.as_chunks.ensures.front ∙ word-at (length b / 4) b k h in (
+    let e = to_z-of_z {w = w32} f ∙ c.word_of.ensures.value ∙ ap (λ cs. word (get_or cs k [])) c.as_chunks.ensures.front ∙ word-at (length b / 4) b k h in (
       length-set c.loop-k.form _ _ ∙ c.loop-k.invariant.0,
       below_more _ _
           (λ j l. let ne : j ≢ k = omega arith in rw get_or-set_other (c.loop-k.invariant.1 j l))

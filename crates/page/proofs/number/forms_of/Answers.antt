@@ -1,4 +1,4 @@
-use Rattle.std.proofs.Common.{◌≡◌, ◌*◌, ◌/◌, ◌<◌, ◌≢◌, [], length, get_or, drop, ap, ◌∙◌, arith, length-set, get_or-set_other, get_or-set_same, below_more}
+use Rattle.std.proofs.Common.{◌/◌, ◌<◌, ◌≢◌, [], length, get_or, ap, ◌∙◌, arith, length-set, get_or-set_other, get_or-set_same, below_more}
 use Rattle.page.specs.Words.{words}
 use Rattle.page.proofs.Chunks.{form-at}
 use Rattle.page.proofs.Words.{forms-all}
