@@ -181,6 +181,10 @@ head-node n p made left at b after s = refused node_count (tree n p made left at
 pub keep-node : (n p made left : ℕ) (at : Bor (List ℕ)) (b after : Bor (List ℕ)) → Reads (opening made left at.now) (Ok (Keep b, after)) → Agrees node_count (tree n p made left at.now) (Err (record { flaw = FlawKind; at = at }))
 keep-node n p made left at b after s = refused node_count (tree n p made left at.now) FlawKind at (tree-opened n p made left at.now (Keep b, after) s)
 
+-- the record that was read, by its kind
+pub taken : (n p made left : ℕ) (L : List ℕ) (first r : Record) (after : Bor (List ℕ)) → first ≡ r → Reads (opening made left L) (Ok (first, after)) → Allowed made left (kind_in first) → true ≡ record_fits n p made (kind_in first) (body_in first) → Reads (opening made left L) (Ok (r, after)) × (Allowed made left (kind_in r) × (true ≡ record_fits n p made (kind_in r) (body_in r)))
+taken n p made left L first r after is s a f = subst (λ x. Reads (opening made left L) (Ok (x, after)) × (Allowed made left (kind_in x) × (true ≡ record_fits n p made (kind_in x) (body_in x)))) is (s, (a, f))
+
 -- ---- the keeps
 
 not-keep : (L : List ℕ) → keep_first L ≡ false → keep_at L ≡ None

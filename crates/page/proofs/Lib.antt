@@ -1,4 +1,5 @@
 mod Checking
+mod Chunks
 pub mod Fitting
 pub mod Holding
 pub mod Opening

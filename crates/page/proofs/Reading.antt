@@ -8,6 +8,7 @@ use Rattle.tree.specs.declared.node.Node.TheVariants.{Keep}
 use Rattle.tree.specs.Trees.{Tree, split, new, leaf, none, nodes, six_forms}
 use Rattle.tree.specs.Limits.{AllFormsFit, TreeFits, WithinLimits}
 use Rattle.tree.specs.Finds.{head_fits}
+use Rattle.tree.specs.Kinds.{byte_of}
 use Rattle.page.specs.declared.record.Flaw.TheVariants.{Number as FlawNumber}
 use Rattle.page.specs.Words.{Bytes, all_bytes, bytes, forms, forms_bytes, word, words}
 use Rattle.page.specs.Records.{Kind, Opened, body_length, flawed, one, opened_as, page_of, record_of, head as head_kind, keep as keep_kind, split as split_kind, new as new_kind, leaf as leaf_kind, none as none_kind}
@@ -21,15 +22,6 @@ use Rattle.page.proofs.Fitting.{form_in, form-out, form-ten, forms-tens, leaf-in
 page-++ : (xs ys : List Node) → page_of (xs ++ ys) ≡ page_of xs ++ page_of ys
 page-++ [] ys = refl
 page-++ (x ∷ xs) ys = ap (λ l. record_of x ++ l) (page-++ xs ys) ∙ sym (append_assoc (record_of x) (page_of xs) (page_of ys))
-
--- the byte of a kind
-abbrev pub byte_of : Kind → ℕ
-byte_of head_kind = 1
-byte_of keep_kind = 2
-byte_of split_kind = 3
-byte_of new_kind = 4
-byte_of leaf_kind = 5
-byte_of none_kind = 6
 
 -- ---- soundness: a record that is opened stands there
 

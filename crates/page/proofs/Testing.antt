@@ -1,53 +1,31 @@
--- One turn of the loops that test numbers.
-use Rattle.std.proofs.Common.{◌≡◌, ℕ, suc, ◌+◌, ◌-◌, ◌^◌, ◌<◌, ◌≤◌, Bool, true, false, cond, not, ◌&&◌, ltb, List, [], ◌∷◌, length, get_or, take, drop, ℤ, pos, sym, refl, ap, ◌∙◌, ⊎_elim, add-one, arith}
+-- The tests of numbers, place by place.
+use Rattle.std.proofs.Common.{◌≡◌, ℕ, zero, suc, ◌+◌, ◌-◌, ◌^◌, Bool, not, ◌&&◌, cond, ltb, List, [], ◌∷◌, take, ℤ, pos, refl, ap, ◌∙◌, ap₂, add-one, arith}
 use lib.Signed.{le_z}
+use Rattle.std.specs.List.{enumerate_from, list_all}
+use Rattle.std.proofs.lemmas.Bool.{cond-false, cond-true, le-ltb, lt-ltb}
 use Rattle.tree.specs.Finds.{all_below}
-use Rattle.std.proofs.lemmas.List.{at_drop_all, drop_more}
-use Rattle.std.proofs.lemmas.Bool.{cases_lt, cond-false, cond-true, le-ltb, lt-ltb}
 use Rattle.page.specs.Fits.{all_zero, fits_from, form_fits, leaf_fits, new_fits, number_fits}
 
-fits-at : (p made k : ℕ) (C : List ℤ) → k < length C → fits_from p made k (drop k C) ≡ (number_fits p made k (get_or C k (pos 0)) && fits_from p made (k + 1) (drop (k + 1) C))
-fits-at p made k C lt = ap (fits_from p made k) (drop_more C k (pos 0) lt) ∙ ap (λ j. number_fits p made k (get_or C k (pos 0)) && fits_from p made j (drop (k + 1) C)) (sym (add-one k))
+fits-is : (p made k : ℕ) (C : List ℤ) → list_all (λ q. number_fits p made q.0 q.1) (enumerate_from k C) ≡ fits_from p made k C
+fits-is p made k [] = refl
+fits-is p made k (x ∷ xs) = ap (λ b. number_fits p made k x && b) (ap (λ j. list_all (λ q. number_fits p made q.0 q.1) (enumerate_from j xs)) (add-one k) ∙ fits-is p made (suc k) xs)
 
-pub fits_on : (p made k : ℕ) (C : List ℤ) → k < length C → true ≡ number_fits p made k (get_or C k (pos 0)) → fits_from p made k (drop k C) ≡ fits_from p made 0 C → fits_from p made (k + 1) (drop (k + 1) C) ≡ fits_from p made 0 C
-fits_on p made k C lt t h = ap (λ b. b && fits_from p made (k + 1) (drop (k + 1) C)) t ∙ sym (fits-at p made k C lt) ∙ h
-
-pub fits-off : (p made k : ℕ) (C : List ℤ) → k < length C → false ≡ number_fits p made k (get_or C k (pos 0)) → fits_from p made k (drop k C) ≡ fits_from p made 0 C → false ≡ fits_from p made 0 C
-fits-off p made k C lt t h = ap (λ b. b && fits_from p made (k + 1) (drop (k + 1) C)) t ∙ sym (fits-at p made k C lt) ∙ h
-
-pub fits-end : (p made k : ℕ) (C : List ℤ) → length C ≤ k → fits_from p made k (drop k C) ≡ fits_from p made 0 C → true ≡ fits_from p made 0 C
-fits-end p made k C h e = sym (at_drop_all (fits_from p made k) C k h) ∙ e
+-- each number with its place
+pub form-is : (p made : ℕ) (C : List ℤ) → list_all (λ q. number_fits p made q.0 q.1) (enumerate_from 0 C) ≡ form_fits p made C
+unfolding form_fits
+form-is p made C = fits-is p made 0 C
 
 -- ---- the forms of a leaf
 
-leaf-at : (n p made k : ℕ) (Cs : List (List ℤ)) → k < length Cs → leaf_fits (n - k) p made (drop k Cs) ≡ (cond (ltb k n) (form_fits p made (get_or Cs k [])) (all_zero (get_or Cs k [])) && leaf_fits (n - (k + 1)) p made (drop (k + 1) Cs))
+leaf-from : (n p made k m : ℕ) (Cs : List (List ℤ)) → m ≡ n - k → list_all (λ q. cond (ltb q.0 n) (form_fits p made q.1) (all_zero q.1)) (enumerate_from k Cs) ≡ leaf_fits m p made Cs
 unfolding leaf_fits
-leaf-at n p made k Cs lt =
-    ap (leaf_fits (n - k) p made) (drop_more Cs k [] lt)
-    ∙ ⊎_elim
-    (λ (l : k < n).
-    let e : n - k ≡ suc (n - (k + 1)) = omega arith in
-    ap (λ m. leaf_fits m p made (get_or Cs k [] ∷ drop (k + 1) Cs)) e ∙ ap (λ b. b && leaf_fits (n - (k + 1)) p made (drop (k + 1) Cs)) (sym (cond-true (ltb k n) _ _ (lt-ltb k n l))))
-    (λ (g : n ≤ k).
-    let e : n - k ≡ 0 = omega arith in
-    let f : n - (k + 1) ≡ 0 = omega arith in
-    ap (λ m. leaf_fits m p made (get_or Cs k [] ∷ drop (k + 1) Cs)) e
-    ∙ ap (λ m. all_zero (get_or Cs k []) && leaf_fits m p made (drop (k + 1) Cs)) (sym f)
-    ∙ ap (λ b. b && leaf_fits (n - (k + 1)) p made (drop (k + 1) Cs)) (sym (cond-false (ltb k n) _ _ (le-ltb k n g))))
-    (cases_lt k n)
+leaf-from n p made k m [] e = refl
+leaf-from n p made k zero (C ∷ Cs) e = ap₂ ◌&&◌ (cond-false (ltb k n) _ _ (le-ltb k n (omega (arith, e)))) (leaf-from n p made (k + 1) zero Cs (omega (arith, e)))
+leaf-from n p made k (suc m) (C ∷ Cs) e = ap₂ ◌&&◌ (cond-true (ltb k n) _ _ (lt-ltb k n (omega (arith, e)))) (leaf-from n p made (k + 1) m Cs (omega (arith, e)))
 
-pub leaf-on : (n p made k : ℕ) (Cs : List (List ℤ)) → k < length Cs → true ≡ cond (ltb k n) (form_fits p made (get_or Cs k [])) (all_zero (get_or Cs k [])) → leaf_fits (n - k) p made (drop k Cs) ≡ leaf_fits n p made Cs → leaf_fits (n - (k + 1)) p made (drop (k + 1) Cs) ≡ leaf_fits n p made Cs
-leaf-on n p made k Cs lt t h = ap (λ b. b && leaf_fits (n - (k + 1)) p made (drop (k + 1) Cs)) t ∙ sym (leaf-at n p made k Cs lt) ∙ h
-
-pub leaf-off : (n p made k : ℕ) (Cs : List (List ℤ)) → k < length Cs → false ≡ cond (ltb k n) (form_fits p made (get_or Cs k [])) (all_zero (get_or Cs k [])) → leaf_fits (n - k) p made (drop k Cs) ≡ leaf_fits n p made Cs → false ≡ leaf_fits n p made Cs
-leaf-off n p made k Cs lt t h = ap (λ b. b && leaf_fits (n - (k + 1)) p made (drop (k + 1) Cs)) t ∙ sym (leaf-at n p made k Cs lt) ∙ h
-
-leaf-nil : (m p made : ℕ) → leaf_fits m p made [] ≡ true
-unfolding leaf_fits
-leaf-nil m p made = refl
-
-pub leaf-end : (n p made k : ℕ) (Cs : List (List ℤ)) → length Cs ≤ k → leaf_fits (n - k) p made (drop k Cs) ≡ leaf_fits n p made Cs → true ≡ leaf_fits n p made Cs
-leaf-end n p made k Cs h e = sym (at_drop_all (leaf_fits (n - k) p made) Cs k h ∙ leaf-nil (n - k) p made) ∙ e
+-- each form with its place
+pub leaf-is : (n p made : ℕ) (Cs : List (List ℤ)) → list_all (λ q. cond (ltb q.0 n) (form_fits p made q.1) (all_zero q.1)) (enumerate_from 0 Cs) ≡ leaf_fits n p made Cs
+leaf-is n p made Cs = leaf-from n p made 0 n Cs (omega arith)
 
 -- ---- a new parameter
 

@@ -1,5 +1,6 @@
 -- The limits of a record's numbers, as tests.
 use Rattle.std.specs.Prelude.{ℕ, zero, suc, ◌+◌, ◌^◌, Bool, true, cond, not, ◌&&◌, ◌||◌, List, [], ◌∷◌, take, ℤ, pos, ◌==◌, int_le, nat_lt, unsigned_abs}
+use Rattle.std.specs.List.{list_all}
 use Rattle.base.specs.Numbers.{in_range}
 use Rattle.tree.specs.Finds.{all_below}
 
@@ -22,8 +23,7 @@ unfoldable pub form_fits : ℕ → ℕ → List ℤ → Bool
 form_fits p made C = fits_from p made 0 C
 
 abbrev pub all_zero : List ℤ → Bool
-all_zero [] = true
-all_zero (x ∷ xs) = is_zero x && all_zero xs
+all_zero xs = list_all is_zero xs
 
 -- a new parameter floor(T / d): d is 2 or more, T's numbers are from 0 to d - 1, some coefficient is not 0
 unfoldable pub new_fits : ℕ → ℕ → ℤ → List ℤ → Bool

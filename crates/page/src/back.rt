@@ -3,10 +3,10 @@ ghost use Rattle.std.specs.Prelude.{◌≡◌, length, slice_index_or};
 ghost use Rattle.tree.specs.declared.node.Node.TheVariants.{None as Blank};
 ghost use Rattle.page.specs.Pages.{ReadsBack};
 ghost use Rattle.page.specs.Records.{node_of, nodes_in};
-ghost use Rattle.page.specs.Ties.{Long, PlacedAt, body_in, kind_in};
+ghost use Rattle.page.specs.Ties.{PlacedAt, body_in, kind_in};
 
 use crate::check::refusal;
-use crate::number::{form_at, forms_of, word_at};
+use crate::number::{form_of, forms_of, new_of};
 use crate::record::{Record, read};
 use base::refusal::Refusal;
 use tree::node::Node;
@@ -23,23 +23,19 @@ pub struct Placed<'a> {
 pub fn record_at<'a>(page: &'a [u8], offset: usize) -> Result<Placed<'a>, Refusal>
     ensures value { PlacedAt page.now offset result }
 {
-    if offset > page.len() {
+    let Some(rest) = page.get(offset..) else {
         return Err(Refusal::PageLength { offset });
-    }
-    let (_, rest) = page.split_at(offset);
-    match read(rest) {
-        Err(flaw) => Err(refusal(flaw, offset)),
-        Ok((found, after)) => Ok(Placed {
-            offset,
-            found,
-            next: page.len() - after.len(),
-        }),
-    }
+    };
+    let (found, after) = read(rest).map_err(|flaw| refusal(flaw, offset))?;
+    Ok(Placed {
+        offset,
+        found,
+        next: page.len() - after.len(),
+    })
 }
 
 /// Inner: the node of a record.
 pub fn node_of(of: Record) -> Node
-    requires body { Long of }
     ensures value { result ≡ node_of (kind_in of.entry) (body_in of.entry) }
 {
     match of {
@@ -47,12 +43,12 @@ pub fn node_of(of: Record) -> Node
             n: body[0],
             p: body[1],
         },
-        Record::Keep(body) => Node::Keep(form_at(body, 0)),
-        Record::Split(body) => Node::Split(form_at(body, 0)),
-        Record::New(body) => Node::New {
-            d: word_at(body, 0),
-            form: form_at(body, 4),
-        },
+        Record::Keep(body) => Node::Keep(form_of(body)),
+        Record::Split(body) => Node::Split(form_of(body)),
+        Record::New(body) => {
+            let (d, form) = new_of(body);
+            Node::New { d, form }
+        }
         Record::Leaf(body) => Node::Leaf(forms_of(body)),
         Record::None => Node::None,
     }
@@ -65,13 +61,13 @@ pub fn node_at(page: &[u8], i: usize) -> Node
 {
     let mut rest = page;
     for _ in 0..i {
-        match read(rest) {
-            Err(_) => return Node::None,
-            Ok((_, after)) => rest = after,
-        }
+        let Ok((_, after)) = read(rest) else {
+            return Node::None;
+        };
+        rest = after;
     }
     match read(rest) {
-        Err(_) => Node::None,
         Ok((found, _)) => node_of(found),
+        Err(_) => Node::None,
     }
 }

@@ -3,11 +3,12 @@ ghost use Rattle.std.specs.Prelude.{◌≡◌, ◌+◌, ◌-◌, ◌<◌, ◌≤
 ghost use Rattle.page.specs.Pages.{Accepted, Refused, WrittenAccepted, checked, refusal_of};
 ghost use Rattle.page.specs.Readings.{head_at, keeps, objection, opening, parse};
 ghost use Rattle.page.specs.Records.{kind_of};
-ghost use Rattle.page.specs.Ties.{Agrees, Allowed, Inside, HeadReads, Heads, Long, Reads, WholeReads, body_in, keep_count, keep_first, kind_in, node_count, record_fits};
+ghost use Rattle.page.specs.Ties.{Agrees, Allowed, Inside, HeadReads, Heads, Reads, WholeReads, body_in, keep_count, keep_first, kind_in, node_count, record_fits};
 
-use crate::number::{form_at, form_fits, forms_of, leaf_fits, new_fits, word_at};
+use crate::number::{form_fits, form_of, forms_of, leaf_fits, new_fits, new_of};
 use crate::record::{Flaw, Record, read};
 use base::refusal::Refusal;
+use tree::kind::Kind;
 use tree::walk::head_fits;
 
 /// A refused record: why, and the page from its kind byte on.
@@ -17,93 +18,124 @@ pub struct Fault<'a> {
     pub at: &'a [u8],
 }
 
-/// What is wrong with a kind below the head and the keeps, if anything is.
-fn objection(kind: u8, made: u8, left: u8) -> Option<Flaw>
-    ensures value { result ≡ objection made left (kind_of kind) }
-{
-    match kind {
-        3 => { if left == 0 { Some(Flaw::Depth) } else { None } }
-        4 => { if made < 5 { None } else { Some(Flaw::Depth) } }
-        5 => None,
-        6 => None,
-        _ => Some(Flaw::Kind),
-    }
-}
+/// What comes after the nodes that were read, and how many they are.
+type Counted<'a> = Result<(&'a [u8], usize), Fault<'a>>;
 
-/// The record that stands first below the head and the keeps, and what comes after it.
-fn open<'a>(rest: &'a [u8], made: u8, left: u8) -> Result<(Record<'a>, &'a [u8]), Flaw>
-    ensures reads { Reads (opening made left rest.now) result }
-    ensures allowed { IfOk result (λ q. Allowed made left (kind_in q.0)) }
-    ensures body { IfOk result (λ q. Long q.0) }
-    ensures shorter { IfOk result (λ q. length q.1.now + 1 ≤ length rest.now) }
-{
-    match rest {
-        [] => Err(Flaw::Length),
-        [kind, ..] => match objection(*kind, made, left) {
-            Some(flaw) => Err(flaw),
-            None => read(rest),
-        },
-    }
-}
-
-/// Whether the numbers of a record are within the limits.
-fn numbers_fit(of: Record, n: u8, p: u8, made: u8) -> bool
-    requires body { Long of }
-    ensures value { result ≡ record_fits n p made (kind_in of.entry) (body_in of.entry) }
-{
-    match of {
-        Record::Split(body) => form_fits(&form_at(body, 0), p, made),
-        Record::New(body) => new_fits(word_at(body, 0), &form_at(body, 4), p, made),
-        Record::Leaf(body) => leaf_fits(&forms_of(body), n, p, made),
-        Record::Head(_) => true,
-        Record::Keep(_) => true,
-        Record::None => true,
-    }
-}
-
-/// The tree that stands first: what comes after it, and how many nodes it has.
-fn node<'a>(
-    rest: &'a [u8],
+/// What a node may be: the sizes of the system, the new parameters on the path to it, and how many splits may follow.
+#[derive(Clone, Copy)]
+struct Below {
     n: u8,
     p: u8,
     made: u8,
     left: u8,
-) -> Result<(&'a [u8], usize), Fault<'a>>
-    requires made { made ≤ 5 }
-    requires left { left ≤ 12 }
-    ensures value { Agrees node_count (parse n p (left + (5 - made) + 1) made left rest.now) result }
-    ensures inside { Inside rest.now result }
-{
-    match open(rest, made, left) {
-        Err(flaw) => Err(Fault { flaw, at: rest }),
-        Ok((first, after)) => {
-            if !numbers_fit(first, n, p, made) {
-                return Err(Fault {
-                    flaw: Flaw::Number,
-                    at: rest,
-                });
-            }
-            match first {
-                Record::Split(_) => {
-                    let (second, first_count) = node(after, n, p, made, left - 1)?;
-                    let (end, second_count) = node(second, n, p, made, left - 1)?;
-                    Ok((end, first_count + second_count + 1))
+    ghost few: { made ≤ 5 },
+    ghost shallow: { left ≤ 12 },
+}
+
+impl Below {
+    /// Below a split.
+    fn below_split(&self) -> Self
+        requires more { 0 < self.now.left }
+        ensures sizes { (result.n ≡ self.now.n) × (result.p ≡ self.now.p) }
+        ensures path { (result.made ≡ self.now.made) × (result.left ≡ self.now.left - 1) }
+    {
+        let mut below = *self;
+        below.left -= 1;
+        below
+    }
+
+    /// Below a new parameter.
+    fn below_new(&self) -> Self
+        requires more { self.now.made < 5 }
+        ensures sizes { (result.n ≡ self.now.n) × (result.p ≡ self.now.p) }
+        ensures path { (result.made ≡ self.now.made + 1) × (result.left ≡ self.now.left) }
+    {
+        let mut below = *self;
+        below.made += 1;
+        below
+    }
+
+    /// What is wrong with a kind below the head and the keeps, if anything is.
+    fn objection(&self, kind: u8) -> Option<Flaw>
+        ensures value { result ≡ objection self.now.made self.now.left (kind_of kind) }
+    {
+        match Kind::try_from(kind) {
+            Ok(Kind::Split) => {
+                if self.left == 0 {
+                    Some(Flaw::Depth)
+                } else {
+                    None
                 }
-                Record::New(_) => {
-                    let (end, count) = node(after, n, p, made + 1, left)?;
-                    Ok((end, count + 1))
-                }
-                Record::Leaf(_) => Ok((after, 1)),
-                Record::None => Ok((after, 1)),
-                Record::Head(_) => Err(Fault {
-                    flaw: Flaw::Kind,
-                    at: rest,
-                }),
-                Record::Keep(_) => Err(Fault {
-                    flaw: Flaw::Kind,
-                    at: rest,
-                }),
             }
+            Ok(Kind::New) => {
+                if self.made < 5 {
+                    None
+                } else {
+                    Some(Flaw::Depth)
+                }
+            }
+            Ok(Kind::Leaf | Kind::None) => None,
+            Ok(Kind::Head | Kind::Keep) | Err(_) => Some(Flaw::Kind),
+        }
+    }
+
+    /// The record that stands first below the head and the keeps, and what comes after it.
+    fn open<'a>(&self, rest: &'a [u8]) -> Result<(Record<'a>, &'a [u8]), Flaw>
+        ensures reads { Reads (opening self.now.made self.now.left rest.now) result }
+        ensures allowed { IfOk result (λ q. Allowed self.now.made self.now.left (kind_in q.0)) }
+        ensures shorter { IfOk result (λ q. length q.1.now + 1 ≤ length rest.now) }
+    {
+        match rest {
+            [] => Err(Flaw::Length),
+            [kind, ..] => match self.objection(*kind) {
+                Some(flaw) => Err(flaw),
+                None => read(rest),
+            },
+        }
+    }
+
+    /// Whether the numbers of a record are within the limits.
+    fn numbers_fit(&self, of: Record) -> bool
+        ensures value { result ≡ record_fits self.now.n self.now.p self.now.made (kind_in of.entry) (body_in of.entry) }
+    {
+        match of {
+            Record::Split(body) => form_fits(&form_of(body), self.p, self.made),
+            Record::New(body) => {
+                let (d, form) = new_of(body);
+                new_fits(d, &form, self.p, self.made)
+            }
+            Record::Leaf(body) => leaf_fits(&forms_of(body), self.n, self.p, self.made),
+            Record::Head(_) | Record::Keep(_) | Record::None => true,
+        }
+    }
+
+    /// The tree that stands first: what comes after it, and how many nodes it has.
+    fn node<'a>(&self, rest: &'a [u8]) -> Counted<'a>
+        ensures value { Agrees node_count (parse self.now.n self.now.p (self.now.left + (5 - self.now.made) + 1) self.now.made self.now.left rest.now) result }
+        ensures inside { Inside rest.now result }
+    {
+        let (first, after) = self.open(rest).map_err(|flaw| Fault { flaw, at: rest })?;
+        if !self.numbers_fit(first) {
+            return Err(Fault {
+                flaw: Flaw::Number,
+                at: rest,
+            });
+        }
+        match first {
+            Record::Split(_) => {
+                let (second, first_count) = self.below_split().node(after)?;
+                let (end, second_count) = self.below_split().node(second)?;
+                Ok((end, first_count + second_count + 1))
+            }
+            Record::New(_) => {
+                let (end, count) = self.below_new().node(after)?;
+                Ok((end, count + 1))
+            }
+            Record::Leaf(_) | Record::None => Ok((after, 1)),
+            Record::Head(_) | Record::Keep(_) => Err(Fault {
+                flaw: Flaw::Kind,
+                at: rest,
+            }),
         }
     }
 }
@@ -114,39 +146,34 @@ fn is_keep(rest: &[u8]) -> bool
 {
     match rest {
         [] => false,
-        [kind, ..] => *kind == 2,
+        [kind, ..] => Kind::try_from(*kind) == Ok(Kind::Keep),
     }
 }
 
 /// The keeps that stand first, at most `more` of them: what comes after them, and how many there are.
-fn keeps<'a>(rest: &'a [u8], p: u8, more: u8) -> Result<(&'a [u8], usize), Fault<'a>>
+fn keeps<'a>(rest: &'a [u8], p: u8, more: u8) -> Counted<'a>
     ensures value { Agrees keep_count (keeps p more rest.now) result }
     ensures inside { Inside rest.now result }
 {
-    if more == 0 {
+    if more == 0 || !is_keep(rest) {
         return Ok((rest, 0));
     }
-    if !is_keep(rest) {
-        return Ok((rest, 0));
-    }
-    match read(rest) {
-        Err(flaw) => Err(Fault { flaw, at: rest }),
-        Ok((first, after)) => match first {
-            Record::Keep(body) => {
-                if !form_fits(&form_at(body, 0), p, 0) {
-                    return Err(Fault {
-                        flaw: Flaw::Number,
-                        at: rest,
-                    });
-                }
-                let (end, count) = keeps(after, p, more - 1)?;
-                Ok((end, count + 1))
+    let (first, after) = read(rest).map_err(|flaw| Fault { flaw, at: rest })?;
+    match first {
+        Record::Keep(body) => {
+            if !form_fits(&form_of(body), p, 0) {
+                return Err(Fault {
+                    flaw: Flaw::Number,
+                    at: rest,
+                });
             }
-            _ => Err(Fault {
-                flaw: Flaw::Kind,
-                at: rest,
-            }),
-        },
+            let (end, count) = keeps(after, p, more - 1)?;
+            Ok((end, count + 1))
+        }
+        _ => Err(Fault {
+            flaw: Flaw::Kind,
+            at: rest,
+        }),
     }
 }
 
@@ -168,23 +195,20 @@ fn head<'a>(page: &'a [u8]) -> Result<Top<'a>, Fault<'a>>
             at: page,
         }),
         [kind, ..] => {
-            if *kind != 1 {
+            if Kind::try_from(*kind) != Ok(Kind::Head) {
                 return Err(Fault {
                     flaw: Flaw::Kind,
                     at: page,
                 });
             }
-            match read(page) {
-                Err(flaw) => Err(Fault { flaw, at: page }),
-                Ok((first, rest)) => head_of(page, first, rest),
-            }
+            let (first, rest) = read(page).map_err(|flaw| Fault { flaw, at: page })?;
+            head_of(page, first, rest)
         }
     }
 }
 
 /// What the first record of a page says, if it is a head within the limits.
 fn head_of<'a>(page: &'a [u8], first: Record<'a>, rest: &'a [u8]) -> Result<Top<'a>, Fault<'a>>
-    requires body { Long first }
     ensures value { Heads page.now (head_at page.now (kind_in first.entry) (body_in first.entry) rest.now) rest.now result }
 {
     match first {
@@ -213,7 +237,13 @@ fn whole<'a>(page: &'a [u8]) -> Result<usize, Fault<'a>>
 {
     let top = head(page)?;
     let (below, kept) = keeps(top.rest, top.p, 8)?;
-    let (end, count) = node(below, top.n, top.p, 0, 12)?;
+    let start = Below {
+        n: top.n,
+        p: top.p,
+        made: 0,
+        left: 12,
+    };
+    let (end, count) = start.node(below)?;
     if end.is_empty() {
         Ok(kept + count + 1)
     } else {
@@ -248,8 +278,5 @@ pub fn check(page: &[u8]) -> Result<usize, Refusal>
     ensures written { WrittenAccepted page.now result }
     ensures refused { Refused page.now result }
 {
-    match whole(page) {
-        Ok(count) => Ok(count),
-        Err(fault) => Err(refusal(fault.flaw, page.len() - fault.at.len())),
-    }
+    whole(page).map_err(|fault| refusal(fault.flaw, page.len() - fault.at.len()))
 }

@@ -1,6 +1,6 @@
 //! The numbers of a record: four bytes each, highest first, two's complement; and their limits.
-ghost use Rattle.std.specs.Prelude.{◌≡◌, ◌+◌, ◌^◌, ◌≤◌, ◌&&◌, length, drop, pos, if◌then◌else◌, int_le};
-ghost use Rattle.page.specs.Fits.{all_zero, form_fits, is_zero, leaf_fits, new_fits, number_fits, usable};
+ghost use Rattle.std.specs.Prelude.{◌≡◌, ◌^◌, ◌&&◌, drop, pos, if◌then◌else◌, int_le};
+ghost use Rattle.page.specs.Fits.{all_zero, form_fits, leaf_fits, new_fits, number_fits, usable};
 ghost use Rattle.page.specs.Words.{forms, word, words};
 
 use tree::node::NodeForm;
@@ -12,34 +12,43 @@ const RANGE: u32 = 1 << 30;
 /// The largest divisor of a new parameter: 2^30.
 const LARGEST: i32 = 1 << 30;
 
-/// Inner: the number in the four bytes from `at` on.
-pub fn word_at(b: &[u8], at: usize) -> i32
-    requires inside { at + 4 ≤ length b.now }
-    ensures value { result ≡ word (drop at b.now) }
+/// Inner: the number of four bytes.
+pub fn word_of(bytes: &[u8; 4]) -> i32
+    ensures value { result ≡ word bytes.now }
 {
-    i32::from_be_bytes([b[at], b[at + 1], b[at + 2], b[at + 3]])
+    i32::from_be_bytes(*bytes)
 }
 
-/// Inner: the ten numbers of a form, in the forty bytes from `at` on.
-pub fn form_at(b: &[u8], at: usize) -> NodeForm
-    requires inside { at + 40 ≤ length b.now }
-    ensures value { result ≡ words 10 (drop at b.now) }
+/// Inner: the ten numbers of a form.
+pub fn form_of(bytes: &[u8; 40]) -> NodeForm
+    ensures value { result ≡ words 10 bytes.now }
 {
+    let (words, _) = bytes.as_chunks::<4>();
     let mut form = [0; 10];
-    for k in 0..10 {
-        form[k] = word_at(b, at + 4 * k);
+    for (k, word) in words.iter().enumerate() {
+        form[k] = word_of(word);
     }
     form
 }
 
-/// Inner: the six forms of a leaf.
-pub fn forms_of(b: &[u8]) -> [NodeForm; 6]
-    requires inside { 240 ≤ length b.now }
-    ensures value { result ≡ forms 6 b.now }
+/// Inner: the divisor and the form of a new parameter.
+pub fn new_of(bytes: &[u8; 44]) -> (i32, NodeForm)
+    ensures divisor { result.0 ≡ word bytes.now }
+    ensures form { result.1 ≡ words 10 (drop 4 bytes.now) }
 {
+    let divisor = bytes.first_chunk().unwrap();
+    let form = bytes.last_chunk().unwrap();
+    (word_of(divisor), form_of(form))
+}
+
+/// Inner: the six forms of a leaf.
+pub fn forms_of(bytes: &[u8; 240]) -> [NodeForm; 6]
+    ensures value { result ≡ forms 6 bytes.now }
+{
+    let (parts, _) = bytes.as_chunks::<40>();
     let mut forms = [[0; 10]; 6];
-    for k in 0..6 {
-        forms[k] = form_at(b, 40 * k);
+    for (k, part) in parts.iter().enumerate() {
+        forms[k] = form_of(part);
     }
     forms
 }
@@ -49,9 +58,9 @@ fn is_usable(p: u8, made: u8, k: usize) -> bool
     ensures value { result ≡ usable p made k }
 {
     if k < 4 {
-        k < p as usize
+        k < usize::from(p)
     } else if k < 9 {
-        k < 4 + made as usize
+        k < 4 + usize::from(made)
     } else {
         true
     }
@@ -68,31 +77,16 @@ fn number_fits(p: u8, made: u8, k: usize, x: i32) -> bool
 pub fn form_fits(form: &NodeForm, p: u8, made: u8) -> bool
     ensures value { result ≡ form_fits p made form.now }
 {
-    for k in 0..10 {
-        if !number_fits(p, made, k, form[k]) {
-            return false;
-        }
-    }
-    true
-}
-
-/// Whether the number is 0.
-fn is_zero(x: i32) -> bool
-    ensures value { result ≡ is_zero x }
-{
-    x == 0
+    form.iter()
+        .enumerate()
+        .all(|(k, x)| number_fits(p, made, k, *x))
 }
 
 /// Whether each number is 0.
 fn all_zero(xs: &[i32]) -> bool
     ensures value { result ≡ all_zero xs.now }
 {
-    for x in xs {
-        if !is_zero(*x) {
-            return false;
-        }
-    }
-    true
+    xs.iter().all(|x| *x == 0)
 }
 
 /// Whether a new parameter floor(T / d) is within the limits.
@@ -106,7 +100,7 @@ pub fn new_fits(d: i32, form: &NodeForm, p: u8, made: u8) -> bool
 fn is_divisor(d: i32) -> bool
     ensures value { result ≡ (int_le (pos 2) d && int_le d (pos (2 ^ 30))) }
 {
-    2 <= d && d <= LARGEST
+    (2..=LARGEST).contains(&d)
 }
 
 /// Whether a form of a leaf is within the limits: 0 where it is not in use.
@@ -124,10 +118,5 @@ fn leaf_form_fits(form: &NodeForm, used: bool, p: u8, made: u8) -> bool
 pub fn leaf_fits(forms: &[NodeForm; 6], n: u8, p: u8, made: u8) -> bool
     ensures value { result ≡ leaf_fits n p made forms.now }
 {
-    for k in 0..6 {
-        if !leaf_form_fits(&forms[k], k < n as usize, p, made) {
-            return false;
-        }
-    }
-    true
+    forms.iter().enumerate().all(|(k, form)| leaf_form_fits(form, k < usize::from(n), p, made))
 }

@@ -1,7 +1,9 @@
 //! The records of a page: one byte of kind, then a body whose length the kind fixes.
-ghost use Rattle.std.specs.Prelude.{◌≡◌, ◌+◌, ◌<◌, ◌≤◌, length, take, drop, IfOk, Ok, Err};
+ghost use Rattle.std.specs.Prelude.{◌≡◌, ◌+◌, ◌<◌, ◌≤◌, length, take, drop, IfOk, MatchResult};
 ghost use Rattle.page.specs.Records.{opened};
-ghost use Rattle.page.specs.Ties.{Long, Reads};
+ghost use Rattle.page.specs.Ties.{Reads};
+
+use tree::kind::{Kind, UnknownKind};
 
 /// Why a record is refused.
 #[derive(Clone, Copy, PartialEq, Eq, Debug)]
@@ -16,59 +18,63 @@ pub enum Flaw {
     Depth,
 }
 
-/// A record: its body is a part of the page that it was read from.
-#[derive(Drop, Clone, Copy)]
-pub enum Record<'a> {
-    Head(&'a [u8]),
-    Keep(&'a [u8]),
-    Split(&'a [u8]),
-    New(&'a [u8]),
-    Leaf(&'a [u8]),
-    None,
-}
+impl From<UnknownKind> for Flaw {
+    ghost use Rattle.page.specs.declared.record.Flaw.TheVariants.{Kind as FlawOfKind};
 
-/// The first n bytes and what comes after them.
-fn part<'a>(rest: &'a [u8], n: usize) -> Result<(&'a [u8], &'a [u8]), Flaw>
-    ensures value { elim result [ Ok q ↦ (n ≤ length rest.now) × ((q.0.now ≡ take n rest.now) × (q.1.now ≡ drop n rest.now)) | Err e ↦ (length rest.now < n) × (e ≡ Flaw.Length) ] }
-{
-    if rest.len() < n {
-        Err(Flaw::Length)
-    } else {
-        Ok(rest.split_at(n))
+    ghost from_gives = { λ _ flaw. flaw ≡ FlawOfKind };
+
+    fn from(_: UnknownKind) -> Self {
+        Flaw::Kind
     }
 }
 
+/// A record: its body is a part of the page that it was read from.
+#[derive(Drop, Clone, Copy)]
+pub enum Record<'a> {
+    Head(&'a [u8; 2]),
+    Keep(&'a [u8; 40]),
+    Split(&'a [u8; 40]),
+    New(&'a [u8; 44]),
+    Leaf(&'a [u8; 240]),
+    None,
+}
+
+/// The first N bytes and what comes after them.
+fn part<const N: usize>(rest: &[u8]) -> Result<(&[u8; N], &[u8]), Flaw>
+    ensures value { MatchResult result (λ q. (q.0.now ≡ take N rest.now) × (q.1.now ≡ drop N rest.now) × (length q.1.now + N ≡ length rest.now)) (λ flaw. (length rest.now < N) × (flaw ≡ Flaw.Length)) }
+{
+    rest.split_first_chunk().ok_or(Flaw::Length)
+}
+
 /// The record that stands first, and what comes after it.
-pub fn read<'a>(rest: &'a [u8]) -> Result<(Record<'a>, &'a [u8]), Flaw>
+pub fn read(rest: &[u8]) -> Result<(Record, &[u8]), Flaw>
     ensures reads { Reads (opened rest.now) result }
-    ensures body { IfOk result (λ q. Long q.0) }
     ensures shorter { IfOk result (λ q. length q.1.now + 1 ≤ length rest.now) }
 {
     match rest {
         [] => Err(Flaw::Length),
-        [kind, bytes @ ..] => match *kind {
-            1 => {
-                let (body, after) = part(bytes, 2)?;
+        [kind, bytes @ ..] => match Kind::try_from(*kind)? {
+            Kind::Head => {
+                let (body, after) = part(bytes)?;
                 Ok((Record::Head(body), after))
             }
-            2 => {
-                let (body, after) = part(bytes, 40)?;
+            Kind::Keep => {
+                let (body, after) = part(bytes)?;
                 Ok((Record::Keep(body), after))
             }
-            3 => {
-                let (body, after) = part(bytes, 40)?;
+            Kind::Split => {
+                let (body, after) = part(bytes)?;
                 Ok((Record::Split(body), after))
             }
-            4 => {
-                let (body, after) = part(bytes, 44)?;
+            Kind::New => {
+                let (body, after) = part(bytes)?;
                 Ok((Record::New(body), after))
             }
-            5 => {
-                let (body, after) = part(bytes, 240)?;
+            Kind::Leaf => {
+                let (body, after) = part(bytes)?;
                 Ok((Record::Leaf(body), after))
             }
-            6 => Ok((Record::None, bytes)),
-            _ => Err(Flaw::Kind),
+            Kind::None => Ok((Record::None, bytes)),
         },
     }
 }

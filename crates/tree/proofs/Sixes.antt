@@ -1,17 +1,9 @@
--- Numbers written one by one over zeros: a point into a setting, the values of a leaf's forms into a place of six.
-use Rattle.std.proofs.Common.{◌≡◌, ℕ, suc, ◌+◌, ◌-◌, ◌<◌, List, [], ◌∷◌, ◌++◌, length, get_or, take, set, replicate, ℤ, pos, sym, refl, ap, ◌∙◌, ap₂, append_assoc, arith}
-use Rattle.std.proofs.lemmas.List.{length_push, length-take-le, set_at, take_more}
+-- Lists with zeros after them: the values of a leaf's forms in a place of six, and numbers written one by one.
+use Rattle.std.proofs.Common.{◌≡◌, ℕ, suc, ◌+◌, ◌-◌, ◌<◌, ◌≤◌, List, [], ◌∷◌, ◌++◌, length, get_or, take, set, replicate, ℤ, pos, sym, refl, ap, ◌∙◌, ap₂, append_assoc, arith}
+use Rattle.std.proofs.lemmas.List.{get_or-map, length-map, length_push, length-take-le, set_at, take_more}
 use Rattle.base.specs.Forms.{value_at}
 use Rattle.tree.specs.Answers.{values_at}
 use Rattle.tree.specs.Finds.{padded, six_numbers}
-
-pub length-values : (ρ : List ℤ) (forms : List (List ℤ)) → length (values_at ρ forms) ≡ length forms
-length-values ρ [] = refl
-length-values ρ (C ∷ Cs) = ap suc (length-values ρ Cs)
-
-values-push : (ρ : List ℤ) (forms : List (List ℤ)) (C : List ℤ) → values_at ρ (forms ++ C ∷ []) ≡ values_at ρ forms ++ value_at C ρ ∷ []
-values-push ρ [] C = refl
-values-push ρ (D ∷ Ds) C = ap (λ vs. value_at D ρ ∷ vs) (values-push ρ Ds C)
 
 padded-push : (m : ℕ) (vs : List ℤ) (x : ℤ) → length vs < m → set (padded m vs) (length vs) x ≡ padded m (vs ++ x ∷ [])
 padded-push m vs x h =
@@ -25,10 +17,7 @@ padded-more m xs k out x h l e inv =
     let n : length (take k xs) ≡ k = length-take-le k xs (omega arith) in
     ap₂ (λ v i. set v i x) inv (sym n) ∙ padded-push m (take k xs) x (omega (arith, n)) ∙ ap (λ y. padded m (take k xs ++ y ∷ [])) e ∙ ap (padded m) (sym (take_more xs k (pos 0) h))
 
--- one value more
-pub six-more : (ρ : List ℤ) (forms : List (List ℤ)) (k : ℕ) (values : List ℤ) (x : ℤ) → k < length forms → k < 6 → x ≡ value_at (get_or forms k []) ρ → values ≡ six_numbers (values_at ρ (take k forms)) → set values k x ≡ six_numbers (values_at ρ (take (k + 1) forms))
-six-more ρ forms k values x h l e inv =
-    let vs = values_at ρ (take k forms) in
-    let n : length vs ≡ k = length-values ρ (take k forms) ∙ length-take-le k forms (omega arith) in
-    ap₂ (λ v i. set v i x) inv (sym n) ∙ padded-push 6 vs x (omega (arith, n)) ∙ ap (λ y. six_numbers (vs ++ y ∷ [])) e
-    ∙ ap six_numbers (sym (values-push ρ (take k forms) (get_or forms k []))) ∙ ap (λ fs. six_numbers (values_at ρ fs)) (sym (take_more forms k [] h))
+-- one value of a form more
+pub value-more : (ρ : List ℤ) (forms : List (List ℤ)) (k : ℕ) (values : List ℤ) (x : ℤ) → k < length forms → length forms ≤ 6 → x ≡ value_at (get_or forms k []) ρ → values ≡ six_numbers (take k (values_at ρ forms)) → set values k x ≡ six_numbers (take (k + 1) (values_at ρ forms))
+value-more ρ forms k values x h l e inv =
+    padded-more 6 (values_at ρ forms) k values x (omega (arith, h, length-map forms (λ C. value_at C ρ))) (omega (arith, h, l)) (e ∙ sym (get_or-map (λ C. value_at C ρ) forms k [] (pos 0) h)) inv

@@ -96,5 +96,5 @@ of_tree n p keeps t point f =
     ∙ asked-at n p (map Keep keeps ++ nodes t) point (cond (keeps_hold keeps (setting z)) (Ok (answer_at t z)) (Err OutsideKeep))
     (λ e. ap (λ ρ. kept_answer n ρ (map Keep keeps ++ nodes t)) (spread-setting point e) ∙ kept n (setting z) keeps t ∙ ap (λ a. cond (keeps_hold keeps (setting z)) (Ok a) (Err OutsideKeep)) w)
 
-pub as-tree : (list : List Node) (point : List ℤ) → AnswersAsTree list point
-as-tree list point n p keeps t f e = ap (λ l. found_in l point) e ∙ of_tree n p keeps t point f
+pub as_tree : (list : List Node) (point : List ℤ) → AnswersAsTree list point
+as_tree list point n p keeps t f e = ap (λ l. found_in l point) e ∙ of_tree n p keeps t point f

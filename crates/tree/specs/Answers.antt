@@ -1,5 +1,5 @@
 -- What a tree answers at a parameter point.
-use Rattle.std.specs.Prelude.{ℕ, suc, ◌+◌, ◌-◌, cond, List, [], ◌∷◌, ◌++◌, map, length, replicate, ℤ, pos, Some, None, Option, int_le, slice_set}
+use Rattle.std.specs.Prelude.{ℕ, suc, ◌+◌, ◌-◌, cond, List, ◌++◌, map, length, replicate, ℤ, pos, Some, None, Option, int_le, slice_set}
 use Rattle.base.specs.Forms.{value_at}
 use Rattle.base.specs.Numbers.{floor_div}
 use Rattle.tree.specs.Trees.{Tree, split, new, leaf, none}
@@ -9,8 +9,7 @@ abbrev pub setting : List ℕ → List ℤ
 setting z = map pos z ++ replicate (9 - length z) (pos 0)
 
 abbrev pub values_at : List ℤ → List (List ℤ) → List ℤ
-values_at ρ [] = []
-values_at ρ (C ∷ Cs) = value_at C ρ ∷ values_at ρ Cs
+values_at ρ forms = map (λ C. value_at C ρ) forms
 
 -- the setting with the value floor(T / d) of one more new parameter, after those made already
 abbrev pub gaining : ℕ → ℤ → List ℤ → List ℤ → List ℤ

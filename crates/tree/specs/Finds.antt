@@ -1,5 +1,6 @@
 -- What a list of nodes answers at a parameter point, whatever stands in it.
-use Rattle.std.specs.Prelude.{ℕ, zero, suc, ◌-◌, Bool, true, cond, ◌&&◌, List, [], ◌∷◌, ◌++◌, length, take, replicate, ℤ, pos, Some, None, Ok, Err, Option, Result, ◌==◌, int_le, int_lt, nat_le, nat_lt}
+use Rattle.std.specs.Prelude.{ℕ, zero, suc, ◌-◌, Bool, cond, ◌&&◌, List, [], ◌∷◌, ◌++◌, length, take, replicate, ℤ, pos, Some, None, Ok, Err, Option, Result, ◌==◌, int_le, int_lt, nat_le, nat_lt}
+use Rattle.std.specs.List.{list_all}
 use Rattle.base.specs.declared.refusal.Refusal.{Refusal}
 use Rattle.base.specs.declared.refusal.Refusal.TheVariants.{NoTree, PointLength, PointNumber, OutsideKeep}
 use Rattle.base.specs.Forms.{value_at}
@@ -11,8 +12,7 @@ use Rattle.tree.specs.Answers.{gaining, values_at}
 
 -- each number is from 0 to d - 1
 abbrev pub all_below : ℤ → List ℤ → Bool
-all_below d [] = true
-all_below d (x ∷ xs) = (int_le (pos 0) x && int_lt x d) && all_below d xs
+all_below d xs = list_all (λ x. int_le (pos 0) x && int_lt x d) xs
 
 -- a new parameter floor(T / d) may be made where `made` are there: not a sixth, d is 2 or more, T's numbers are from 0 to d - 1
 abbrev pub proper : ℕ → ℤ → List ℤ → Bool
@@ -48,8 +48,7 @@ kept_answer n ρ (Blank ∷ rest) = Ok (walk n 0 0 ρ (Blank ∷ rest))
 
 -- each number is from 0 to 1,000,000
 abbrev pub is_point : List ℤ → Bool
-is_point [] = true
-is_point (x ∷ xs) = (int_le (pos 0) x && int_le x (pos 1000000)) && is_point xs
+is_point xs = list_all (λ x. int_le (pos 0) x && int_le x (pos 1000000)) xs
 
 -- a list, and zeros up to so many
 abbrev pub padded : ℕ → List ℤ → List ℤ

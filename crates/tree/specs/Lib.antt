@@ -4,4 +4,5 @@ pub mod Answers
 pub mod Limits
 pub mod Finds
 pub mod Questions
+pub mod Parts
 pub mod Walks

@@ -2,5 +2,6 @@
 #![tactic(auto)]
 
 pub mod kind;
+mod known;
 pub mod node;
 pub mod walk;

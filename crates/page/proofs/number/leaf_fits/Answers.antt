@@ -1,12 +1,15 @@
-use Rattle.std.proofs.Common.{arith}
-use Rattle.page.proofs.Testing.{leaf-end, leaf-off, leaf-on}
+use Rattle.std.proofs.Common.{cond, ltb, ◌∙◌, rules, tests}
+use Rattle.std.proofs.lemmas.Iterator.{YieldsList-from_slice}
+use Rattle.std.proofs.lemmas.Iterator.Consumers.{YieldsList-from_enumerate}
+use Rattle.std.proofs.lemmas.Iterator.Search.{all_from_yields_List}
+use Rattle.page.specs.Fits.{all_zero, form_fits}
+use Rattle.page.proofs.Testing.{leaf-is}
 use Rattle.page.proofs.number.leaf_fits.Goals as goal
 
-pub returns-then-not-leaf_form_fits : goal.returns-then-not-leaf_form_fits
-returns-then-not-leaf_form_fits c = record { value = leaf-off c.args.n c.args.p c.args.made c.loop-k.k c.args.forms.now (omega arith) c.if-not-leaf_form_fits.ensures.value c.loop-k.invariant }
-
-pub loop-k-preserved : goal.loop-k-preserved
-loop-k-preserved c = leaf-on c.args.n c.args.p c.args.made c.loop-k.k c.args.forms.now (omega arith) c.if-not-leaf_form_fits.ensures.value c.loop-k.invariant
-
 pub returns : goal.returns
-returns c = record { value = leaf-end c.args.n c.args.p c.args.made c.loop-k.k c.args.forms.now (omega arith) c.loop-k.invariant }
+returns c =
+    let n = c.args.n in
+    let p = c.args.p in
+    let made = c.args.made in
+    let Cs = c.args.forms.now in
+    record { value = all_from_yields_List (λ q. cond (ltb q.0 n) (form_fits p made q.1) (all_zero q.1)) _ _ c.all.result c.all.ensures.ran (YieldsList-from_enumerate (YieldsList-from_slice Cs (cc)) cc) (λ x b q k. search (rules, tests)) ∙ leaf-is n p made Cs }

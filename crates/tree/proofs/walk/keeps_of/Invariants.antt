@@ -3,4 +3,4 @@ use Rattle.tree.specs.Finds.{kept_answer}
 use Rattle.tree.proofs.walk.keeps_of.Given as goal
 
 abbrev pub invariant-loop-k : goal.invariant-loop-k
-invariant-loop-k l = (n : ℕ) → kept_answer n l.setting (drop l.k l.nodes) ≡ kept_answer n l.setting l.nodes
+invariant-loop-k l = (n : ℕ) → kept_answer n l.known.setting (drop l.k l.nodes) ≡ kept_answer n l.known.setting l.nodes
