@@ -9,10 +9,7 @@ use tree::node::Node;
 
 /// A store of four places.
 fn four_places(rt: &HostRuntime) -> Result<NodeStore, Fail> {
-    Ok(NodeStore::new(Vec::from_slice(
-        rt.alloc(),
-        &[Node::None; 4],
-    )?))
+    Ok(NodeStore::new(Vec::from_slice(rt.alloc(), &[Node::None; 4])?))
 }
 
 /// Puts each node, and says by what the last one was refused or accepted.

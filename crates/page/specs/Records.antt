@@ -3,8 +3,7 @@ use Rattle.std.specs.Prelude.{ℕ, zero, suc, ◌+◌, ◌^◌, Bool, true, cond
 use Rattle.std.specs.Int.Signed.{mag}
 use Rattle.tree.specs.declared.node.Node.{Node}
 use Rattle.tree.specs.declared.node.Node.TheVariants.{Head, Keep, Split, New, Leaf, None as Blank}
-use Rattle.tree.specs.declared.kind.Kind.{Kind as NodeKind}
-use Rattle.tree.specs.declared.kind.Kind.TheVariants as kind
+use Rattle.tree.specs.Kinds.{kind_of as kind_of_node}
 use Rattle.page.specs.declared.record.Flaw.{Flaw}
 use Rattle.page.specs.declared.record.Flaw.TheVariants.{Length as FlawLength, Kind as FlawKind}
 use Rattle.page.specs.Words.{all_bytes, bytes, forms, forms_bytes, word, words}
@@ -20,6 +19,10 @@ body_length split = 40
 body_length new = 44
 body_length leaf = 240
 body_length none = 0
+
+-- and its record
+abbrev pub record_length : Kind → ℕ
+record_length kind = suc (body_length kind)
 
 -- a node as its record
 abbrev pub record_of : Node → List ℕ
@@ -68,12 +71,7 @@ nodes_in (suc f) bs = nodes_from (nodes_in f) (opened bs)
 
 -- how many bytes the record of a node takes
 abbrev pub cost_of : Node → ℕ
-cost_of (Head n p) = 3
-cost_of (Keep C) = 41
-cost_of (Split C) = 41
-cost_of (New d T) = 45
-cost_of (Leaf Cs) = 241
-cost_of Blank = 1
+cost_of node = record_length (kind_of_node node)
 
 -- bytes written over others from a place on
 abbrev pub pasted : ℕ → List ℕ → List ℕ → List ℕ
@@ -85,15 +83,6 @@ fits_at offset node bs = nat_le (offset + cost_of node) (length bs)
 
 abbrev pub written_at : ℕ → Node → List ℕ → List ℕ
 written_at offset node bs = cond (fits_at offset node bs) (pasted offset (record_of node) bs) bs
-
--- how many bytes the record of a kind takes, its first one among them
-abbrev pub record_length : NodeKind → ℕ
-record_length kind.Head = 3
-record_length kind.Keep = 41
-record_length kind.Split = 41
-record_length kind.New = 45
-record_length kind.Leaf = 241
-record_length kind.None = 1
 
 -- a number of 32 bits; ten of them
 abbrev pub fits32 : ℤ → Bool

@@ -1,6 +1,5 @@
 -- Records that stand one after the other, read back.
-use Rattle.std.proofs.Common.{◌≡◌, ℕ, zero, suc, ◌+◌, ◌-◌, ◌*◌, ◌<◌, ◌≤◌, ltb, ◌≢◌, List, [], ◌∷◌, ◌++◌, length, get_or, take, drop, set, Some, Ok, Err, sym, refl, ap, ◌∙◌, subst, ap₂, ⊎_elim, append_assoc, append-nil, arith, length-append, length-set, take-append-drop, Bor}
-use Prim.Native.Nat.{min}
+use Rattle.std.proofs.Common.{◌≡◌, ℕ, zero, suc, ◌+◌, ◌*◌, ◌<◌, ◌≤◌, ltb, ◌≢◌, List, [], ◌∷◌, ◌++◌, length, get_or, take, drop, set, Some, Ok, Err, sym, refl, ap, ◌∙◌, subst, ap₂, ⊎_elim, append_assoc, append-nil, arith, length-append, length-set, take-append-drop, Bor}
 use Rattle.std.proofs.lemmas.List.{drop_at, drop_more, get_or-drop, get_or-set_other, get_or-set_same, length-take-le, take-append-le, take_at, take_more}
 use Rattle.std.proofs.lemmas.Bool.{cases_lt, cond-false, le-ltb}
 use Rattle.tree.specs.declared.node.Node.{Node}
@@ -195,9 +194,3 @@ leads page n j i xs room whole all h is =
     let one = one_byte x in
     let e : length (page_of xs) ≡ n = ap length (sym whole) ∙ length-take-le n page room in
     (omega arith, (omega arith, omega arith))
-
--- the last offset up to a place that the index has, or 0 where it has none
-pub noted-offset : (index : List ℕ) (xs : List Node) (place : ℕ) → Indexed index xs → place < length xs →
-    get_or index (min place (length index - 1)) 0 ≡ length (page_of (take (min place (length index - 1)) xs))
-noted-offset [] xs place h lt = let e : min place (0 - 1) ≡ 0 = omega arith in rw e
-noted-offset (a ∷ index) xs place h lt = h (min place (length (a ∷ index) - 1)) (omega arith) (omega arith)

@@ -1,7 +1,7 @@
 -- The nodes whose records stand first in a page.
 use Rattle.std.specs.Prelude.{◌≡◌, ℕ, zero, suc, ◌<◌, List, [], ◌∷◌, length, take, Some, None, Option, slice_index}
 use Rattle.tree.specs.declared.node.Node.{Node}
-use Rattle.page.specs.Records.{Kind, Opened, body_length, flawed, kind_of, node_of, one, opened, page_of}
+use Rattle.page.specs.Records.{Kind, Opened, flawed, kind_of, node_of, one, opened, page_of, record_length}
 
 abbrev pub and_those : Opened → (List ℕ → List Node) → List Node
 and_those (one k b rest) more = node_of k b ∷ more rest
@@ -18,7 +18,7 @@ Indexed index xs = (k : ℕ) → k < length xs → k < length index → slice_in
 
 -- how many bytes a record has, by its first one (1 where that is no kind)
 abbrev pub length_as : Option Kind → ℕ
-length_as (Some k) = suc (body_length k)
+length_as (Some k) = record_length k
 length_as None = 1
 
 abbrev pub length_by : ℕ → ℕ

@@ -37,6 +37,7 @@ impl PageStore {
     {
         let noted = place.min(self.index.len().saturating_sub(1));
         let mut at = self.index.get(noted).copied().unwrap_or(0);
+        // a loop: the closure of a fold would not know that the offset is within the page
         for _ in noted..place {
             at += length_of(self.page[at]);
         }

@@ -1,5 +1,4 @@
-use Rattle.std.proofs.Common.{◌≡◌, ◌<◌, length, get_or, take, drop, vec_items, sym, ap, ◌∙◌, arith}
-use Rattle.std.proofs.lemmas.List.{get_or_past}
+use Rattle.std.proofs.Common.{◌≡◌, ◌<◌, length, get_or, take, drop, vec_items, ap, ◌∙◌, arith}
 use Rattle.tree.specs.declared.node.Node.TheVariants.{None}
 use Rattle.page.specs.Records.{page_of}
 use Rattle.page.proofs.Holding.{holdable-to}
@@ -29,10 +28,3 @@ returns-then-place-self c =
     let a : c.offset-at.result ≡ length (page_of (take c.args.place xs)) = c.offset-at.ensures.answer in
     let e = ap (drop c.offset-at.result) c.as_slice.ensures.value ∙ ap (λ k. drop k page) a ∙ stands page s.used c.args.place xs None s.whole h in
     record { answer = c.node_from.ensures.value x _ (holdable-to x (holdable-at xs c.args.place None h (all-held s))) e }
-
-pub returns-else-place-self : goal.returns-else-place-self
-returns-else-place-self c =
-    let s = c.args.self.now in
-    let xs = listed s in
-    let l : length xs ≡ s.count = s.all in
-    record { answer = sym (get_or_past xs c.args.place None (omega arith)) }
