@@ -67,6 +67,7 @@ impl Nest {
         front(&self.bounds[i], self.kept.parameters() + 1)
     }
 
+    // that a column is below n + p + 1 stays a clause: a type for it would wrap one comparison, made in `number`
     /// A number of the row of a loop: its bound minus its unknown.
     fn loop_number(&self, row: usize, column: usize) -> i64
         requires known { row < (nest_of self.now).n }
@@ -93,8 +94,8 @@ impl Nest {
         let mut sum = Sum {
             value: self.kept.number(cell, n + k),
         };
-        for i in 0..n {
-            sum = plus_product(sum, self.kept.number(cell, i), self.bounds[i][k]);
+        for (i, bound) in self.bounds[..n].iter().enumerate() {
+            sum = plus_product(sum, self.kept.number(cell, i), bound[k]);
         }
         sum.value
     }
