@@ -1,10 +1,9 @@
 -- Steps along a text, and along the digits of a number.
-use Rattle.std.proofs.Common.{◌≡◌, ℕ, suc, ◌+◌, ◌-◌, ◌*◌, ◌^◌, ◌<◌, ◌≤◌, Bool, true, false, not, cond, List, [], ◌∷◌, length, get_or, take, drop, Some, None, refl, sym, ap, ◌∙◌, pow-suc, add-one, arith}
+use Rattle.std.proofs.Common.{◌≡◌, ℕ, suc, ◌+◌, ◌*◌, ◌^◌, ◌<◌, ◌≤◌, Bool, true, false, not, cond, List, [], ◌∷◌, length, get_or, drop, Some, None, refl, sym, ap, ◌∙◌, pow-suc, add-one, arith}
 use native.Mathlib.Nat.{pow-le-pow_right}
-use Rattle.std.proofs.lemmas.List.{at_drop_more, take_rest}
-use Rattle.std.proofs.lemmas.Bool.{cond-true, eq-eqb}
+use Rattle.std.proofs.lemmas.List.{at_drop_more}
 use Rattle.std.specs.List.{prefix_len}
-use Rattle.listing.specs.Words.{is_blank, after_blanks, word_length, digit_of, spelled_from, natural_of, minus, number_of}
+use Rattle.listing.specs.Words.{is_blank, after_blanks, word_length, digit_of, spelled_from}
 
 -- the first byte that is no blank, and the first that is one, as counts of the bytes before it
 pub blanks-dropped : (text : List ℕ) → after_blanks text ≡ drop (prefix_len is_blank text) text
@@ -35,8 +34,3 @@ below_power i x d h k = rw (add-one i, pow-suc 10 i) (omega arith)
 
 pub nine-fit : (i x d : ℕ) → x < 10 ^ i → i < 9 → d ≤ 9 → x * 10 + d < 1000000000
 nine-fit i x d h k e = let l : i ≤ 8 = omega arith in let p : 10 ^ i ≤ 10 ^ 8 = pow-le-pow_right (omega arith) l in omega arith
-
--- a word that begins with a minus, and what stands after that
-pub after_minus : (word : List ℕ) → get_or word 0 0 ≡ 45 → number_of word ≡ minus (natural_of (take (length word - 1) (drop 1 word)))
-after_minus [] e = absurd (omega arith)
-after_minus (b ∷ bs) e = cond-true _ _ _ (eq-eqb b 45 e) ∙ ap (λ ds. minus (natural_of ds)) (sym (take_rest (b ∷ bs) 1))

@@ -12,31 +12,17 @@ use Rattle.nest.specs.Acts.{nest_of}
 use Rattle.nest.proofs.Rows.{at-column, length-column, sum_done, sum_more, sum-small}
 use Rattle.nest.proofs.nest.Nest.put_in.Goals as goal
 
-pub plus_product-sum-requires : goal.plus_product-sum-requires
-plus_product-sum-requires c =
+pub plus_product-sum-requires-clause-small_y : goal.plus_product-sum-requires-clause-small_y
+plus_product-sum-requires-clause-small_y c =
     let s = c.args.self.now in
     let i = c.loop-i.i in
     let k = c.args.k in
-    let x = c.number-in-loop-i.result in
     let y = at (get_or (take c.unknowns-n.result s.bounds) i []) k in
     let r : get_or (take c.unknowns-n.result s.bounds) i [] ≡ get_or s.bounds i [] = get_or-take c.unknowns-n.result s.bounds i [] (omega arith) in
-    let fx : SFits w64 x = search rules in
     let fy : SFits w64 y = search rules in
     let b : entry (nest_of s).bounds i k ≡ y = entry-inside (s.kept.p + 1) s.kept.n s.bounds i k (omega (arith, c.unknowns-n.ensures.value)) (omega arith) ∙ ap (λ (row : List ℤ). at row k) (sym r) in
-    let hx : nat_abs x ≤ 300 = subst (λ z. nat_abs z ≤ 300) (sym c.number-in-loop-i.ensures.value) (s.cells_small c.args.cell i) in
     let hy : nat_abs y ≤ 300 = subst (λ z. nat_abs z ≤ 300) b (s.bounds_small i k) in
-    record { small_sum = omega (arith, c.loop-i.invariant.0); small_x = simp to_z-of_z (omega (arith, hx)); small_y = simp to_z-of_z (omega (arith, hy)) }
-
-pub loop-i-init : goal.loop-i-init
-loop-i-init c =
-    let s = c.args.self.now in
-    let x = c.number.result in
-    let f : SFits w64 x = search rules in
-    let e : x ≡ entry (nest_of s).cells c.args.cell (s.kept.n + c.args.k) =
-    c.number.ensures.value ∙ ap (λ n. entry (nest_of s).cells c.args.cell (n + c.args.k)) c.unknowns-n.ensures.value in
-    let D = dot (get_or (nest_of s).cells c.args.cell []) (column (nest_of s).bounds c.args.k) in
-    let g = to_z-of_z w64 x f ∙ e in
-    (subst (λ z. nat_abs z ≤ 300) (sym g) (s.cells_small c.args.cell (s.kept.n + c.args.k)), ap (λ z. z +ℤ D) g)
+    simp to_z-of_z (omega (arith, hy))
 
 pub loop-i-preserved : goal.loop-i-preserved
 loop-i-preserved c =

@@ -7,15 +7,6 @@ use Rattle.base.proofs.Values.{constant-first, dot-end, first-within}
 use Rattle.nest.specs.Acts.{nest_of}
 use Rattle.nest.proofs.nest.back.Postings.bound.Goals as goal
 
-pub plus_product-sum-requires : goal.plus_product-sum-requires
-plus_product-sum-requires c =
-    let i = c.loop-c.invariant in
-    let x = first-within 300 c.in-Some.c.now c.next.new.self.a.rest.now c.loop-c.c-iterator.a.rest.now c.in-Some.ensures.steps.0 i.bound in
-    let y = first-within 1000000 c.in-Some.x.now c.next.new.self.b.rest.now c.loop-c.c-iterator.b.rest.now c.in-Some.ensures.steps.1 i.point in
-    let fx : SFits w64 c.in-Some.c.now = fits-within c.in-Some.c.now (omega (arith, x.0)) in
-    let fy : SFits w64 c.in-Some.x.now = fits-within c.in-Some.x.now (omega (arith, y.0)) in
-    record { small_sum = omega (arith, i.size, i.few); small_x = simp to_z-of_z (omega (arith, x.0)); small_y = simp to_z-of_z (omega (arith, y.0)) }
-
 pub loop-c-preserved : goal.loop-c-preserved
 loop-c-preserved c =
     let i = c.loop-c.invariant in
@@ -34,8 +25,8 @@ loop-c-preserved c =
       value = omega (arith, ints, v, d, i.value);
     }
 
-pub returns : goal.returns
-returns c =
+pub returns-clause-value : goal.returns-clause-value
+returns-clause-value c =
     let i = c.loop-c.invariant in
     let s = c.args.self.now.nest.now in
     let R = c.args.self.now.point.now in
@@ -45,7 +36,4 @@ returns c =
     let f : SFits w64 t = search rules in
     let e : t ≡ at U (length R) +ℤ dot U R = omega (arith, ints, z, i.value) in
     let lU = s.bounds_long c.args.i (omega (arith, s.each_bounded, c.requires)) in
-    record {
-      value = to_z-of_z w64 t f ∙ e ∙ sym (constant-first U R (omega (arith, lU, c.args.self.now.counted)));
-      size = simp to_z-of_z (omega (arith, i.size, i.few));
-    }
+    to_z-of_z w64 t f ∙ e ∙ sym (constant-first U R (omega (arith, lU, c.args.self.now.counted)))
