@@ -1,6 +1,6 @@
 -- Steps along the numbers of a text.
-use Rattle.std.proofs.Common.{◌≡◌, ℕ, suc, ◌+◌, ◌-◌, ◌<◌, ◌≤◌, List, [], ◌∷◌, ◌++◌, length, take, set, ℤ, Some, None, Ok, Err, Option, Result, sym, refl, ap, ◌∙◌, arith}
-use Rattle.std.proofs.lemmas.List.{append_assoc, append-nil, take_all, take_more_set}
+use Rattle.std.proofs.Common.{◌≡◌, ℕ, suc, ◌+◌, ◌-◌, ◌<◌, List, [], ◌∷◌, ◌++◌, length, take, set, ℤ, Some, None, Ok, Err, Option, Result, sym, refl, ap, ◌∙◌, arith}
+use Rattle.std.proofs.lemmas.List.{append_assoc, take_more_set}
 use Rattle.base.specs.declared.refusal.Refusal.{Refusal}
 use Rattle.base.specs.declared.refusal.Refusal.TheVariants.{Listing}
 use Rattle.listing.specs.Words.{first_word, after_word, number_of}
@@ -16,10 +16,6 @@ then xs r = and_then r (λ t. Ok (after xs t))
 then-with : (xs : List ℤ) (x : ℤ) (r : Result Numbers Refusal) → then xs (and_then r (λ t. Ok (with x t))) ≡ then (xs ++ x ∷ []) r
 then-with xs x (Ok t) = ap (λ ys. Ok (record { values = ys; rest = t.rest })) (sym (append_assoc xs (x ∷ []) t.values))
 then-with xs x (Err e) = refl
-
-pub then-none : (r : Result Numbers Refusal) → then [] r ≡ r
-then-none (Ok t) = refl
-then-none (Err e) = refl
 
 -- what comes of a text by the number that its first word spells
 abbrev turn : ℕ → List ℕ → Option ℤ → Result Numbers Refusal
@@ -40,8 +36,3 @@ pub no_number : (n i : ℕ) (text : List ℕ) (xs : List ℤ) → i < n → numb
 no_number n i text xs h e =
     let one : n - i ≡ suc (n - (i + 1)) = omega arith in
     ap (λ m. then xs (first_numbers m text)) one ∙ ap (λ o. then xs (turn (n - (i + 1)) (after_word text) o)) e
-
-pub all-filled : (n i : ℕ) (places : List ℤ) (text : List ℕ) → n ≤ i → length places ≤ i → then (take i places) (first_numbers (n - i) text) ≡ Ok (record { values = places; rest = text })
-all-filled n i places text h k =
-    let none : n - i ≡ 0 = omega arith in
-    ap (λ m. then (take i places) (first_numbers m text)) none ∙ ap (λ xs. Ok (record { values = xs; rest = text })) (append-nil (take i places) ∙ take_all i places k)

@@ -1,10 +1,8 @@
 -- Steps along a text, and along the digits of a number.
-use Rattle.std.proofs.Common.{◌≡◌, ℕ, suc, ◌+◌, ◌-◌, ◌*◌, ◌^◌, ◌<◌, ◌≤◌, Bool, true, false, not, cond, List, [], ◌∷◌, length, get_or, take, drop, Some, None, refl, sym, ap, ◌∙◌, pow-suc, add-one, arith}
+use Rattle.std.proofs.Common.{◌≡◌, ℕ, suc, ◌+◌, ◌*◌, ◌^◌, ◌<◌, ◌≤◌, Bool, true, false, not, cond, List, [], ◌∷◌, drop, refl, ap, ◌∙◌, arith}
 use native.Mathlib.Nat.{pow-le-pow_right}
-use Rattle.std.proofs.lemmas.List.{at_drop_more, take_rest}
-use Rattle.std.proofs.lemmas.Bool.{cond-true, eq-eqb}
 use Rattle.std.specs.List.{prefix_len}
-use Rattle.listing.specs.Words.{is_blank, after_blanks, word_length, digit_of, spelled_from, natural_of, minus, number_of}
+use Rattle.listing.specs.Words.{is_blank, after_blanks, word_length}
 
 -- the first byte that is no blank, and the first that is one, as counts of the bytes before it
 pub blanks-dropped : (text : List ℕ) → after_blanks text ≡ drop (prefix_len is_blank text) text
@@ -23,20 +21,6 @@ word-found (b ∷ bs) = go (is_blank b) (word-found bs)
     go true e = refl
     go false e = omega arith
 
-pub digit-passed : (digits : List ℕ) (i x d : ℕ) → i < length digits → Some d ≡ digit_of (get_or digits i 0) → spelled_from x (drop i digits) ≡ spelled_from (x * 10 + d) (drop (i + 1) digits)
-digit-passed digits i x d h t = at_drop_more (spelled_from x) digits i 0 h ∙ ap (λ o. elim o [ Some e ↦ spelled_from (x * 10 + e) (drop (i + 1) digits) | None ↦ None ]) (sym t)
-
-pub no_digit : (digits : List ℕ) (i x : ℕ) → i < length digits → None ≡ digit_of (get_or digits i 0) → spelled_from x (drop i digits) ≡ None
-no_digit digits i x h t = at_drop_more (spelled_from x) digits i 0 h ∙ ap (λ o. elim o [ Some e ↦ spelled_from (x * 10 + e) (drop (i + 1) digits) | None ↦ None ]) (sym t)
-
--- i digits spell less than 10 ^ i
-pub below_power : (i x d : ℕ) → x < 10 ^ i → d ≤ 9 → x * 10 + d < 10 ^ (i + 1)
-below_power i x d h k = rw (add-one i, pow-suc 10 i) (omega arith)
-
+-- i digits spell less than 10 ^ i, and nine of them a number that fits
 pub nine-fit : (i x d : ℕ) → x < 10 ^ i → i < 9 → d ≤ 9 → x * 10 + d < 1000000000
 nine-fit i x d h k e = let l : i ≤ 8 = omega arith in let p : 10 ^ i ≤ 10 ^ 8 = pow-le-pow_right (omega arith) l in omega arith
-
--- a word that begins with a minus, and what stands after that
-pub after_minus : (word : List ℕ) → get_or word 0 0 ≡ 45 → number_of word ≡ minus (natural_of (take (length word - 1) (drop 1 word)))
-after_minus [] e = absurd (omega arith)
-after_minus (b ∷ bs) e = cond-true _ _ _ (eq-eqb b 45 e) ∙ ap (λ ds. minus (natural_of ds)) (sym (take_rest (b ∷ bs) 1))

@@ -4,8 +4,7 @@ use Rattle.std.specs.Borrow.{Bor}
 use Rattle.base.specs.declared.refusal.Refusal.{Refusal}
 use Rattle.base.specs.declared.refusal.Refusal.TheVariants.{Counts as CountsRefused, Listing as ListingRefused}
 use Rattle.source.specs.Systems.{System}
-use Rattle.source.specs.Counted.{Sizes, context_row_length, row_length}
-use Rattle.source.specs.Limits.{counts_answer}
+use Rattle.source.specs.Counted.{Sizes, context_row_length, row_length, sized}
 use Rattle.source.specs.Enters.{enter_answer, entered, confine_answer, confined}
 use Rattle.source.specs.RowSources.{meaning_of, new_answer}
 use Rattle.listing.specs.Words.{after_blanks, first_word, after_word, number_of}
@@ -46,8 +45,7 @@ count_at xs i = count_of (slice_index_or xs i (pos 0))
 -- n p m k, refused where they are out of limits
 abbrev pub counts_of : List ℤ → Result Sizes Refusal
 counts_of xs =
-    and_then (count_at xs 0) (λ n. and_then (count_at xs 1) (λ p. and_then (count_at xs 2) (λ m. and_then (count_at xs 3) (λ k.
-    and_then (counts_answer n p m k) (λ _. Ok (record { n = n; p = p; m = m; k = k }))))))
+    and_then (count_at xs 0) (λ n. and_then (count_at xs 1) (λ p. and_then (count_at xs 2) (λ m. and_then (count_at xs 3) (λ k. sized n p m k))))
 
 -- how many numbers stand before the context rows: the fuel and the rows
 abbrev pub before_context : Sizes → ℕ

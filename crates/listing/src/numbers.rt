@@ -11,10 +11,8 @@ fn next_number(text: &[u8]) -> Result<(i64, &[u8]), Refusal>
     ensures answer { elim result [ Ok q ↦ (number_of (first_word text.now) ≡ Some q.0) × (q.1.now ≡ after_word text.now) | Err e ↦ (number_of (first_word text.now) ≡ None) × (e ≡ Refusal.Listing) ] }
 {
     let (word, rest) = first_word(text);
-    match number(word) {
-        Some(x) => Ok((x, rest)),
-        None => Err(Refusal::Listing),
-    }
+    let x = number(word).ok_or(Refusal::Listing)?;
+    Ok((x, rest))
 }
 
 /// Writes the numbers that the first words spell into the places, and answers what stands after

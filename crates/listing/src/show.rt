@@ -26,7 +26,7 @@ impl fmt::Display for Line<'_> {
     ghost output = { λ x. Some (line x.0.now) };
 
     fn fmt<W: fmt::Write>(&self, f: &mut fmt::Formatter<W>) -> fmt::Result {
-        for x in self.0.iter() {
+        for x in self.0 {
             write!(f, " {x}")?;
         }
         writeln!(f, "")
@@ -41,7 +41,7 @@ impl fmt::Display for Points<'_> {
     ghost output = { λ x. Some (flat_map point x.0.now) };
 
     fn fmt<W: fmt::Write>(&self, f: &mut fmt::Formatter<W>) -> fmt::Result {
-        for form in self.0.iter() {
+        for form in self.0 {
             write!(f, "at{}", Line(form))?;
         }
         Ok(())
@@ -96,7 +96,7 @@ impl fmt::Display for TreeText<'_> {
 
     fn fmt<W: fmt::Write>(&self, f: &mut fmt::Formatter<W>) -> fmt::Result {
         let unknowns = unknowns_of(self.nodes);
-        for node in self.nodes.iter() {
+        for node in self.nodes {
             write!(f, "{}", Lines { node, unknowns })?;
         }
         let steps = self.steps;

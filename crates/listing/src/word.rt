@@ -58,7 +58,7 @@ fn digit(b: u8) -> Option<u32>
 fn may_count(digits: usize) -> bool
     ensures value { result ≡ (nat_le 1 digits && nat_le digits 9) }
 {
-    1 <= digits && digits <= MAX_DIGITS
+    (1..=MAX_DIGITS).contains(&digits)
 }
 
 /// The number that 1 to 9 digits spell.
@@ -87,13 +87,7 @@ pub fn number(word: &[u8]) -> Option<i64>
     ensures value { result ≡ number_of word.now }
 {
     match word {
-        [first, digits @ ..] if *first == b'-' => {
-            let x = natural(digits)?;
-            Some(negated(x))
-        }
-        _ => {
-            let x = natural(word)?;
-            Some(i64::from(x))
-        }
+        [b'-', digits @ ..] => natural(digits).map(negated),
+        _ => natural(word).map(i64::from),
     }
 }

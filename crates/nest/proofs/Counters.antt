@@ -1,9 +1,10 @@
 -- Numbers within the loops' bounds, and the counters that they stand for.
-use Rattle.std.proofs.Common.{◌≡◌, ℕ, zero, suc, ◌+◌, ◌<◌, ◌≤◌, true, ◌&&◌, leb, List, [], ◌∷◌, length, get_or, drop, ℤ, pos, negsuc, ◌-ℤ◌, nat_abs, ◌≤ℤ◌, refl, ap, arith, w64, SFits}
+use Rattle.std.proofs.Common.{◌≡◌, ℕ, zero, suc, ◌+◌, ◌<◌, ◌≤◌, Bool, true, false, cond, ◌&&◌, leb, List, [], ◌∷◌, length, get_or, drop, ℤ, pos, negsuc, ◌-ℤ◌, nat_abs, ◌≤ℤ◌, Ok, Err, refl, ap, arith}
 use lib.Signed.{le_z}
 use Rattle.std.proofs.lemmas.List.{drop_more}
 use Rattle.std.proofs.lemmas.Int.{ints}
 use Rattle.std.proofs.lemmas.Bool.{and_parts, false≢true, leb-true}
+use Rattle.base.specs.declared.refusal.Refusal.{Refusal}
 use Rattle.base.specs.Numbers.{AllWithin, at}
 use Rattle.base.specs.Forms.{value_at}
 use Rattle.tree.specs.Finds.{is_point}
@@ -30,14 +31,14 @@ from-to (pos m) (pos n) e = let h = leb-true m n (and_parts (le_z (pos 0) (pos m
 from-to (pos m) (negsuc n) e = absurd (false≢true (and_parts (le_z (pos 0) (pos m)) (le_z (pos m) (negsuc n)) e).1)
 from-to (negsuc m) U e = absurd (false≢true (and_parts (le_z (pos 0) (negsuc m)) (le_z (negsuc m) U) e).0)
 
-pub reached-at : (Us : List (List ℤ)) (ρ xs : List ℤ) (i : ℕ) → reached Us ρ xs ≡ true → i < length Us → i < length xs → (pos 0 ≤ℤ at xs i) × (at xs i ≤ℤ value_at (get_or Us i []) ρ)
-reached-at [] ρ xs i e h l = absurd (let no : ⊥ = omega arith in no)
-reached-at (U ∷ Us) ρ [] i e h l = absurd (let no : ⊥ = omega arith in no)
-reached-at (U ∷ Us) ρ (x ∷ xs) zero e h l = from-to x (value_at U ρ) (and_parts (le_z (pos 0) x && le_z x (value_at U ρ)) (reached Us ρ xs) e).0
-reached-at (U ∷ Us) ρ (x ∷ xs) (suc i) e h l = reached-at Us ρ xs i (and_parts (le_z (pos 0) x && le_z x (value_at U ρ)) (reached Us ρ xs) e).1 (omega arith) (omega arith)
+-- ---- what a test that accepts or refuses has told
+pub told-accepted : {A : Type 0} (b : Bool) (x y : A) (e : Refusal) → Ok x ≡ cond b (Ok y) (Err e) → (b ≡ true) × (x ≡ y)
+told-accepted true x y e h = (refl, cc)
+told-accepted false x y e h = absurd (let no : ◌≡◌ {A = ℕ} 0 1 = cc in let z : ⊥ = omega arith in z)
 
-pub less-fits : (x U : ℤ) → pos 0 ≤ℤ x → x ≤ℤ U → nat_abs U ≤ 1200000300 → SFits w64 (U -ℤ x)
-less-fits x U a b s = omega (arith, ints)
+pub told-refused : {A : Type 0} (b : Bool) (y : A) (d e : Refusal) → Err d ≡ cond b (Ok y) (Err e) → (b ≡ false) × (d ≡ e)
+told-refused true y d e h = absurd (let no : ◌≡◌ {A = ℕ} 0 1 = cc in let z : ⊥ = omega arith in z)
+told-refused false y d e h = (refl, cc)
 
 -- ---- parameter points
 small : (x : ℤ) → (pos 0 ≤ℤ x) × (x ≤ℤ pos 1000000) → nat_abs x ≤ 1000000

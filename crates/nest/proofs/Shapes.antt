@@ -69,7 +69,7 @@ counted f (suc m) (x ∷ xs) = let h = counted f m xs in omega (arith, h)
 
 pub shaped_of : (s : Nest) → Shaped (nest_of s)
 shaped_of s =
-    let few = counted (take {A = ℤ} (s.kept.p + 1)) s.kept.context_count s.kept.context in
+    let few = counted (take {A = ℤ} s.kept.context.width) s.kept.context.count s.kept.context.numbers in
     record {
       some_loop = s.kept.some_unknown;
       few_loops = s.kept.unknowns_fit;
@@ -80,7 +80,7 @@ shaped_of s =
       few_cells = s.few_cells;
       cells_long = s.cells_long;
       cells_small = s.cells_small;
-      few_context = omega (arith, few, s.kept.context_fits);
+      few_context = omega (arith, few, s.kept.context.fit);
       context_long = s.context_long;
       context_small = s.context_small;
     }

@@ -21,12 +21,7 @@ fn is_small(x: i64) -> bool
 fn all_small(numbers: &[i64]) -> bool
     ensures value { result ≡ all_small numbers.now }
 {
-    for x in numbers {
-        if !is_small(*x) {
-            return false;
-        }
-    }
-    true
+    numbers.iter().all(|x| is_small(*x))
 }
 
 /// Refuses numbers that are not `width` many, whose place is not below `places`, or that are out of limits.

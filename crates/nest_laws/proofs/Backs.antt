@@ -7,9 +7,9 @@ use Rattle.std.proofs.lemmas.Bool.{and_from, cond-true, eq-eqb, le-leb}
 use Rattle.base.specs.declared.refusal.Refusal.{Refusal}
 use Rattle.base.specs.declared.refusal.Refusal.TheVariants.{BeyondBound, PointLength, PointNumber}
 use Rattle.base.specs.Forms.{value_at}
-use Rattle.tree.specs.Finds.{is_point, six_numbers}
+use Rattle.tree.specs.Finds.{is_point, point_answer, six_numbers}
 use Rattle.algebra.specs.Lists.{zeros}
-use Rattle.nest.specs.Backs.{back_answer, bounds_less, left_by, point_answer, reached, then_reached}
+use Rattle.nest.specs.Backs.{back_answer, bounds_less, left_by, reached, then_reached}
 use Rattle.nest.specs.Loops.{Loops, Shaped}
 use Rattle.nest_laws.specs.Laws.{Askable, BackPosts}
 use Rattle.nest_laws.specs.Postings.{UpToBounds}

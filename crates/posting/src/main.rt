@@ -3,10 +3,12 @@
 #![tactic(auto)]
 
 use base::refusal::Refusal;
+use listing::solve::WORK;
 use listing::word::{first_word, number};
 use nest::nest::Nest;
 use solver::run::solve_into;
 use source::source::Source;
+use std::alloc::{AllocError, AllocFailed};
 use std::io;
 use tree::node::Node;
 use tree::walk::{Found, find};
@@ -14,11 +16,34 @@ use tree::walk::{Found, find};
 /// The steps that a solve may make.
 const FUEL: i64 = 100_000;
 
-/// The nodes that a solve may write.
-const WORK: usize = 64;
-
 /// The most numbers of a line: for six counters, four parameters and the constant.
 const MOST: usize = 11;
+
+/// Why the lines are not taken to their end.
+enum Stop {
+    /// What a line says is refused.
+    Refused(Refusal),
+    /// There is no memory, or nothing can be printed.
+    Failed(anyhow::Error),
+}
+
+impl From<Refusal> for Stop {
+    fn from(refusal: Refusal) -> Stop {
+        Stop::Refused(refusal)
+    }
+}
+
+impl From<anyhow::Error> for Stop {
+    fn from(error: anyhow::Error) -> Stop {
+        Stop::Failed(error)
+    }
+}
+
+impl<T: Drop> From<AllocFailed<T>> for Stop {
+    fn from(failed: AllocFailed<T>) -> Stop {
+        Stop::Failed(AllocError::from(failed).into())
+    }
+}
 
 /// A nest as it is read, and how many of its loops have their bound.
 #[derive(Clone, Copy)]
@@ -27,37 +52,37 @@ struct Reading {
     bounded: usize,
 }
 
-/// Reads the numbers of a line into the places, and answers how many there are.
-fn numbers_of(line: &[u8], places: &mut [i64; MOST]) -> Result<usize, Refusal> {
+/// The numbers of a line.
+fn numbers_of(rt: &HostRuntime, line: &[u8]) -> Result<Vec<i64>, Stop> {
+    let mut numbers = Vec::new(rt.alloc());
     let mut rest = line;
-    for count in 0..MOST {
+    for _ in 0..=MOST {
         let (word, after) = first_word(rest);
-        if word.len() == 0 {
-            return Ok(count);
+        if word.is_empty() {
+            return Ok(numbers);
         }
-        places[count] = number(word).ok_or(Refusal::Listing)?;
+        numbers.push(number(word).ok_or(Refusal::Listing)?)?;
         rest = after;
     }
-    let (word, _) = first_word(rest);
-    if word.len() == 0 {
-        Ok(MOST)
-    } else {
-        Err(Refusal::Listing)
-    }
+    Err(Stop::Refused(Refusal::Listing))
+}
+
+/// A count, which is not below 0.
+fn count(x: i64) -> Result<usize, Refusal> {
+    usize::try_from(x).map_err(|_| Refusal::Counts)
 }
 
 /// A fresh nest from the first line: `loops` and its two counts.
-fn first_line(line: &[u8]) -> Result<Reading, Refusal> {
+fn first_line(rt: &HostRuntime, line: &[u8]) -> Result<Reading, Stop> {
     let (word, rest) = first_word(line);
-    let mut places = [0; MOST];
-    let count = numbers_of(rest, &mut places)?;
-    if word != b"loops".as_slice() || count != 2 {
-        return Err(Refusal::Listing);
+    let numbers = numbers_of(rt, rest)?;
+    match (word, numbers.as_slice()) {
+        (b"loops", [n, p]) => {
+            let nest = Nest::new(count(*n)?, count(*p)?)?;
+            Ok(Reading { nest, bounded: 0 })
+        }
+        _ => Err(Stop::Refused(Refusal::Listing)),
     }
-    let n = usize::try_from(places[0]).unwrap_or(MOST);
-    let p = usize::try_from(places[1]).unwrap_or(MOST);
-    let nest = Nest::new(n, p)?;
-    Ok(Reading { nest, bounded: 0 })
 }
 
 /// Gives the nest what a line says: the bound of the next loop, a cell condition or a context row.
@@ -112,47 +137,37 @@ fn answer(rt: &HostRuntime, nest: &Nest, point: &[i64]) -> anyhow::Result<()> {
 }
 
 /// Takes a further line: something for the nest, or a question.
-fn take_line(
-    rt: &HostRuntime,
-    reading: &mut Reading,
-    line: &[u8],
-) -> anyhow::Result<Result<(), Refusal>> {
+fn take_line(rt: &HostRuntime, reading: &mut Reading, line: &[u8]) -> Result<(), Stop> {
     let (word, rest) = first_word(line);
-    let mut places = [0; MOST];
-    let count = match numbers_of(rest, &mut places) {
-        Ok(count) => count.min(MOST),
-        Err(refusal) => return Ok(Err(refusal)),
-    };
-    let numbers = &places[0..count];
-    if word == b"at".as_slice() {
-        answer(rt, &reading.nest, numbers)?;
-        return Ok(Ok(()));
+    let numbers = numbers_of(rt, rest)?;
+    match word {
+        b"at" => answer(rt, &reading.nest, &numbers)?,
+        _ => add(reading, word, &numbers)?,
     }
-    Ok(add(reading, word, numbers))
+    Ok(())
 }
 
 /// Takes the lines up to the first that is refused.
-fn take_lines(rt: &HostRuntime, text: &str) -> anyhow::Result<Result<(), Refusal>> {
+fn take_lines(rt: &HostRuntime, text: &str) -> Result<(), Stop> {
     let mut lines = text.lines();
     let first = lines.next().unwrap_or("");
-    let mut reading = match first_line(first.as_bytes()) {
-        Ok(reading) => reading,
-        Err(refusal) => return Ok(Err(refusal)),
-    };
+    let mut reading = first_line(rt, first.as_bytes())?;
     for line in lines {
-        if let Err(refusal) = take_line(rt, &mut reading, line.as_bytes())? {
-            return Ok(Err(refusal));
-        }
+        take_line(rt, &mut reading, line.as_bytes())?;
     }
-    Ok(Ok(()))
+    Ok(())
 }
 
 fn run(rt: &HostRuntime) -> anyhow::Result<()> {
     let text = io::read_to_string(rt.alloc(), rt.stdin())?;
-    if let Err(refusal) = take_lines(rt, text.as_str())? {
-        println!(rt; "refused {}", refusal.number())?;
+    match take_lines(rt, text.as_str()) {
+        Ok(()) => Ok(()),
+        Err(Stop::Refused(refusal)) => {
+            println!(rt; "refused {}", refusal.number())?;
+            Ok(())
+        }
+        Err(Stop::Failed(error)) => Err(error),
     }
-    Ok(())
 }
 
 fn main(rt: HostRuntime) -> anyhow::Result<()> {

@@ -1,5 +1,5 @@
 //! What a nest does as a source.
-ghost use Rattle.std.specs.Prelude.{◌≡◌, ◌+◌, ◌<◌, [], length, ◌+ℤ◌, slice_index_or};
+ghost use Rattle.std.specs.Prelude.{◌≡◌, ◌+◌, ◌<◌, ◌≤◌, [], length, take, ◌+ℤ◌, slice_index_or};
 ghost use Rattle.base.specs.Numbers.{at};
 ghost use Rattle.base.specs.Forms.{dot};
 ghost use Rattle.source.specs.Systems.{entry};
@@ -59,6 +59,15 @@ impl Nest {
         self.kept.confine(row)
     }
 
+    /// The numbers of the bound of loop i.
+    pub(super) fn bound_of(&self, i: usize) -> &[i64]
+        requires { i < (nest_of self.now).n }
+        ensures value { result.now ≡ slice_index_or (nest_of self.now).bounds i [] }
+    {
+        front(&self.bounds[i], self.kept.parameters() + 1)
+    }
+
+    // that a column is below n + p + 1 stays a clause: a type for it would wrap one comparison, made in `number`
     /// A number of the row of a loop: its bound minus its unknown.
     fn loop_number(&self, row: usize, column: usize) -> i64
         requires known { row < (nest_of self.now).n }
@@ -67,7 +76,7 @@ impl Nest {
     {
         let n = self.kept.unknowns();
         if column >= n {
-            self.bounds[row][column - n]
+            self.bound_of(row)[column - n]
         } else if column == row {
             -1
         } else {
@@ -85,8 +94,8 @@ impl Nest {
         let mut sum = Sum {
             value: self.kept.number(cell, n + k),
         };
-        for i in 0..n {
-            sum = plus_product(sum, self.kept.number(cell, i), self.bounds[i][k]);
+        for (i, bound) in self.bounds[..n].iter().enumerate() {
+            sum = plus_product(sum, self.kept.number(cell, i), bound[k]);
         }
         sum.value
     }
@@ -119,6 +128,15 @@ impl Nest {
             -self.cell_number(cell, column)
         }
     }
+}
+
+/// The first numbers of a bound, which are those that count.
+fn front(bound: &[i64; MAX_CONTEXT_ROW_LENGTH], width: usize) -> &[i64]
+    requires { width ≤ 5 }
+    ensures value { result.now ≡ take width bound.now }
+{
+    let (numbers, _) = bound.split_at(width);
+    numbers
 }
 
 impl Source for Nest {

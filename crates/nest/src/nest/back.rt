@@ -1,84 +1,76 @@
 //! From a parameter point and the numbers of a least point to the counters of the loops.
-ghost use Rattle.std.specs.Prelude.{◌≡◌, ◌<◌, ◌≤◌, true, ◌&&◌, [], length, pos, OnOk, int_le, slice_index_or, unsigned_abs};
+ghost use Rattle.std.specs.Prelude.{◌≡◌, ◌<◌, ◌≤◌, [], length, Ok, Err, slice_index_or, unsigned_abs};
 ghost use Rattle.base.specs.Numbers.{AllWithin};
 ghost use Rattle.base.specs.Forms.{value_at};
+ghost use Rattle.tree.specs.Finds.{point_answer};
 ghost use Rattle.nest.specs.Acts.{nest_of};
-ghost use Rattle.nest.specs.Backs.{back_answer, bounds_less, left_by, point_answer, reached, six_of};
+ghost use Rattle.nest.specs.Backs.{back_answer, counter_of, counters_of, left_by};
 
 use super::Nest;
 use base::form::{Sum, plus_product};
 use base::refusal::Refusal;
 use source::source::Source;
-use tree::walk::is_point;
+use tree::walk::check_point;
 
-/// Whether a number is from 0 to its loop's bound.
-fn reaches(x: Sum, bound: Sum) -> bool
-    ensures value { result ≡ (int_le (pos 0) x.value && int_le x.value bound.value) }
-{
-    0 <= x.value && x.value <= bound.value
+/// A nest at a parameter point.
+#[derive(Clone, Copy)]
+struct Postings<'a> {
+    nest: &'a Nest,
+    point: &'a [i64],
+    ghost counted: { length point.now ≡ (nest_of nest.now).p },
+    ghost small: { AllWithin 1000000 point.now },
+}
+
+impl<'a> Postings<'a> {
+    /// Refuses what is no parameter point: 42 if it is not of p numbers, 43 if one is not from 0 to 1,000,000.
+    fn at(nest: &'a Nest, point: &'a [i64]) -> Result<Postings<'a>, Refusal>
+        ensures answer { elim result [ Ok s ↦ (point_answer (nest_of nest.now).p point.now ≡ Ok tt) × ((s.nest.now ≡ nest.now) × (s.point.now ≡ point.now)) | Err e ↦ point_answer (nest_of nest.now).p point.now ≡ Err e ] }
+    {
+        check_point(point, nest.kept.parameters())?;
+        Ok(Postings { nest, point })
+    }
+
+    /// The bound of loop i.
+    fn bound(&self, i: usize) -> i64
+        requires { i < (nest_of self.now.nest.now).n }
+        ensures value { result ≡ value_at (slice_index_or (nest_of self.now.nest.now).bounds i []) self.now.point.now }
+        ensures size { unsigned_abs result ≤ 1200000300 }
+    {
+        let bound = self.nest.bound_of(i);
+        let mut sum = Sum {
+            value: bound[self.point.len()],
+        };
+        for (c, x) in bound.iter().zip(self.point) {
+            sum = plus_product(sum, *c, *x);
+        }
+        sum.value
+    }
+
+    /// The counter that a number stands for: the bound of loop i minus the number, which is from 0 to the bound.
+    fn counter(&self, i: usize, number: i64) -> Result<i64, Refusal>
+        requires { i < (nest_of self.now.nest.now).n }
+        ensures answer { result ≡ counter_of (slice_index_or (nest_of self.now.nest.now).bounds i []) self.now.point.now number }
+    {
+        let bound = self.bound(i);
+        if !(0..=bound).contains(&number) {
+            return Err(Refusal::BeyondBound);
+        }
+        Ok(bound - number)
+    }
+
+    /// The counters that the numbers stand for, zeros after them.
+    fn counters(&self, numbers: &[i64; 6]) -> Result<[i64; 6], Refusal>
+        ensures answer { result ≡ counters_of (nest_of self.now.nest.now).bounds self.now.point.now numbers.now }
+    {
+        let mut counters = [0; 6];
+        for (i, number) in numbers[..self.nest.kept.unknowns()].iter().enumerate() {
+            counters[i] = self.counter(i, *number)?;
+        }
+        Ok(counters)
+    }
 }
 
 impl Nest {
-    /// The bound of loop i at a parameter point.
-    fn bound_at(&self, i: usize, point: &[i64]) -> Sum
-        requires known { i < (nest_of self.now).n }
-        requires counted { length point.now ≡ (nest_of self.now).p }
-        requires small { AllWithin 1000000 point.now }
-        ensures value { result.value ≡ value_at (slice_index_or (nest_of self.now).bounds i []) point.now }
-        ensures size { unsigned_abs result.value ≤ 1200000300 }
-    {
-        let p = point.len();
-        let mut sum = Sum {
-            value: self.bounds[i][p],
-        };
-        for k in 0..p {
-            sum = plus_product(sum, self.bounds[i][k], point[k]);
-        }
-        sum
-    }
-
-    /// Whether each number is from 0 to its loop's bound at the point.
-    fn all_reach(&self, point: &[i64], numbers: &[i64; 6]) -> bool
-        requires counted { length point.now ≡ (nest_of self.now).p }
-        requires small { AllWithin 1000000 point.now }
-        ensures value { result ≡ reached (nest_of self.now).bounds point.now numbers.now }
-    {
-        for i in 0..self.kept.unknowns() {
-            if !reaches(Sum { value: numbers[i] }, self.bound_at(i, point)) {
-                return false;
-            }
-        }
-        true
-    }
-
-    /// Each bound at the point minus its number, zeros after them.
-    fn counters(&self, point: &[i64], numbers: &[i64; 6]) -> [i64; 6]
-        requires counted { length point.now ≡ (nest_of self.now).p }
-        requires small { AllWithin 1000000 point.now }
-        requires within { reached (nest_of self.now).bounds point.now numbers.now ≡ true }
-        ensures value { result ≡ six_of (bounds_less (nest_of self.now).bounds point.now numbers.now) }
-    {
-        let mut counters = [0; 6];
-        for i in 0..self.kept.unknowns() {
-            counters[i] = self.bound_at(i, point).value - numbers[i];
-        }
-        counters
-    }
-
-    /// Refuses what is no parameter point: 42 if it is not of p numbers, 43 if one is not from 0 to 1,000,000.
-    fn check_point(&self, point: &[i64]) -> Result<(), Refusal>
-        ensures answer { result ≡ point_answer (nest_of self.now).p point.now }
-        ensures fits { OnOk result ((length point.now ≡ (nest_of self.now).p) × AllWithin 1000000 point.now) }
-    {
-        if point.len() != self.kept.parameters() {
-            return Err(Refusal::PointLength);
-        }
-        if !is_point(point) {
-            return Err(Refusal::PointNumber);
-        }
-        Ok(())
-    }
-
     /// Turns the numbers of a point of the nest's system into counters: each bound at the parameter point minus
     /// its number, zeros after them.
     ///
@@ -94,11 +86,8 @@ impl Nest {
         ensures left { place.new ≡ left_by (nest_of self.now) point.now numbers.now }
     {
         *place = [0; 6];
-        self.check_point(point)?;
-        if !self.all_reach(point, numbers) {
-            return Err(Refusal::BeyondBound);
-        }
-        *place = self.counters(point, numbers);
+        let postings = Postings::at(self, point)?;
+        *place = postings.counters(numbers)?;
         Ok(())
     }
 }

@@ -1,15 +1,9 @@
-use Rattle.std.proofs.Common.{◌≡◌, ◌-◌, [], length, take, Some, Err, sym, ap, ◌∙◌, arith, w64, SFits, rules}
+use Rattle.std.proofs.Common.{length, take, Some, Err, sym, ap, ◌∙◌, arith, w64, SFits, rules}
 use Rattle.std.proofs.lemmas.Result.{err_from_is_err_and}
 use Rattle.std.proofs.lemmas.Int.{to_z-of_z}
-use Rattle.listing.specs.Listings.{first_numbers, reached}
-use Rattle.listing.proofs.NumberSteps.{then, then-none, place-filled, no_number, all-filled}
+use Rattle.listing.specs.Listings.{reached}
+use Rattle.listing.proofs.NumberSteps.{place-filled, no_number}
 use Rattle.listing.proofs.numbers.first_numbers.Goals as goal
-
-pub loop-place-init : goal.loop-place-init
-loop-place-init c =
-    let n = length c.args.places.now in
-    let all : n - 0 ≡ n = omega arith in
-    ap (λ m. then [] (first_numbers m c.args.text.now)) all ∙ then-none (first_numbers n c.args.text.now)
 
 pub loop-place-preserved : goal.loop-place-preserved
 loop-place-preserved c =
@@ -30,8 +24,3 @@ returns-in_err-x c =
     let p = err_from_is_err_and c.from_residual.result c.from_residual.ensures.1 in
     let e = no_number n i c.loop-place.rest.now (take i c.loop-place.places) (omega arith) q.0 in
     record { answer = (sym c.loop-place.invariant ∙ e) ∙ sym (ap (reached _) p.1 ∙ ap Err (p.2 ∙ q.1)) }
-
-pub returns : goal.returns
-returns c =
-    let n = length c.args.places.now in
-    record { answer = sym c.loop-place.invariant ∙ all-filled n c.loop-place.place-index c.loop-place.places c.loop-place.rest.now (omega arith) (omega arith) }

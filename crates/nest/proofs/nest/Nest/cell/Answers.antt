@@ -1,20 +1,9 @@
-use Rattle.std.proofs.Common.{◌≡◌, ◌+◌, ◌<◌, cond, length, is_ok, Ok, Result, sym, refl, ap, ◌∙◌, subst}
+use Rattle.std.proofs.Common.{◌≡◌, ◌+◌, ◌<◌, cond, length, is_ok, Ok, Result, refl, ap, ◌∙◌, subst}
 use Rattle.base.specs.declared.refusal.Refusal.{Refusal}
 use Rattle.source.specs.RowSources.{meaning_of}
-use Rattle.nest.specs.Loops.{Shaped}
 use Rattle.nest.specs.Acts.{cell_answer, nest_of}
-use Rattle.nest.proofs.Shapes.{cell-entered, cell-joined, parts, plus_cell, shaped-cell, shaped_of}
+use Rattle.nest.proofs.Shapes.{cell-entered, cell-joined, plus_cell}
 use Rattle.nest.proofs.nest.Nest.cell.Goals as goal
-
-pub invariant_of-self : goal.invariant_of-self
-invariant_of-self c =
-    let s = c.args.self.now in
-    let numbers = c.args.numbers.now in
-    let f = c.in_ok-check_given.ensures.fits in
-    let e : length numbers ≡ s.kept.n + s.kept.p + 1 = f.0 ∙ rw (c.unknowns.ensures.value, c.parameters.ensures.value) refl in
-    let l : length (nest_of s).cells < 3 = subst (λ m. m < 3) c.rows.ensures.value f.1 in
-    let w = cell-joined (meaning_of s.kept) (meaning_of c.enter.new.self) s.bounds numbers e l f.2 c.enter.ensures.left in
-    parts _ (subst Shaped (sym w) (shaped-cell (nest_of s) numbers e l f.2 (shaped_of s)))
 
 pub returns : goal.returns
 returns c =

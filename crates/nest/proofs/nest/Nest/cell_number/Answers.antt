@@ -1,24 +1,11 @@
-use Rattle.std.proofs.Common.{◌≡◌, ◌+◌, ◌-◌, ◌≤◌, [], get_or, ◌+ℤ◌, neg_ℤ, nat_abs, sym, ap, ◌∙◌, subst, arith, w64, SFits, rules}
+use Rattle.std.proofs.Common.{◌+◌, ◌-◌, [], get_or, ◌+ℤ◌, sym, ap, ◌∙◌, arith, w64, SFits, rules}
 use Rattle.std.proofs.lemmas.Int.{to_z-of_z}
 use Rattle.base.specs.Numbers.{at}
 use Rattle.base.specs.Forms.{dot}
 use Rattle.algebra.specs.Lists.{column}
 use Rattle.nest.specs.Acts.{nest_of}
-use Rattle.nest.proofs.Rows.{parameter-at, unknown-at}
-use Rattle.nest.proofs.Sizes.{minus-read}
+use Rattle.nest.proofs.Rows.{parameter-at}
 use Rattle.nest.proofs.nest.Nest.cell_number.Goals as goal
-
-pub returns-then-column-n : goal.returns-then-column-n
-returns-then-column-n c =
-    let s = c.args.self.now in
-    let C = get_or (nest_of s).cells c.args.cell [] in
-    let j = c.args.column in
-    let x = c.number.result in
-    let f : SFits w64 x = search rules in
-    let e : x ≡ at C j = c.number.ensures.value in
-    let h : nat_abs x ≤ 300 = subst (λ z. nat_abs z ≤ 300) (sym e) (s.cells_small c.args.cell j) in
-    let l = s.cells_long c.args.cell c.requires.known in
-    record { value = minus-read x f (omega (arith, h)) ∙ ap neg_ℤ e ∙ sym (unknown-at s.kept.n (nest_of s).bounds C j (omega (arith, l)) (omega arith)) }
 
 pub returns-else-column-n : goal.returns-else-column-n
 returns-else-column-n c =

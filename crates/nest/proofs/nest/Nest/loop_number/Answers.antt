@@ -1,7 +1,7 @@
-use Rattle.std.proofs.Common.{◌≡◌, ◌+◌, ◌-◌, sym, ap, ◌∙◌, arith, w64, SFits, rules}
+use Rattle.std.proofs.Common.{◌≡◌, ◌-◌, List, ℤ, sym, ap, ◌∙◌, arith, w64, SFits, rules}
 use Rattle.std.proofs.lemmas.Int.{to_z-of_z}
+use Rattle.base.specs.Numbers.{at}
 use Rattle.source.specs.Systems.{entry}
-use Rattle.source.proofs.Tables.{entry-inside}
 use Rattle.nest.specs.Acts.{nest_of}
 use Rattle.nest.specs.Tables.{loop_rows}
 use Rattle.nest.proofs.Rows.{loop-bound-at, loop-other-at, loop-own-at}
@@ -15,11 +15,12 @@ returns-then-column-n c =
     let j = c.args.column in
     let e : c.unknowns-n.result ≡ n = search rules in
     let k = j - c.unknowns-n.result in
-    let f : SFits w64 (entry s.bounds i k) = search rules in
+    let row = c.bound_of.result.now in
+    let f : SFits w64 (at row k) = search rules in
     record {
       value =
-          to_z-of_z w64 (entry s.bounds i k) f
-          ∙ sym (entry-inside (s.kept.p + 1) n s.bounds i k (omega arith) (omega arith))
+          to_z-of_z w64 (at row k) f
+          ∙ ap (λ (U : List ℤ). at U k) c.bound_of.ensures.value
           ∙ ap (λ m. entry (nest_of s).bounds i (j - m)) e
           ∙ sym (loop-bound-at n i j (nest_of s).bounds (omega (arith, s.each_bounded)) (omega arith));
     }

@@ -1,4 +1,5 @@
-use Rattle.std.proofs.Common.{◌≡◌, ◌+◌, ◌≤◌, [], get_or, drop, ◌+ℤ◌, ◌*ℤ◌, nat_abs, sym, ap, ◌∙◌, subst, arith, w64, SFits, rules}
+use Rattle.std.proofs.Common.{◌≡◌, ◌+◌, ◌≤◌, List, [], get_or, drop, take, ℤ, ◌+ℤ◌, ◌*ℤ◌, nat_abs, sym, ap, ◌∙◌, subst, arith, w64, SFits, rules}
+use Rattle.std.proofs.lemmas.List.{get_or-take}
 use Rattle.std.proofs.lemmas.Int.{to_z-of_z}
 use Rattle.base.specs.Numbers.{at}
 use Rattle.base.specs.Forms.{dot}
@@ -11,30 +12,17 @@ use Rattle.nest.specs.Acts.{nest_of}
 use Rattle.nest.proofs.Rows.{at-column, length-column, sum_done, sum_more, sum-small}
 use Rattle.nest.proofs.nest.Nest.put_in.Goals as goal
 
-pub plus_product-sum-requires : goal.plus_product-sum-requires
-plus_product-sum-requires c =
+pub plus_product-sum-requires-clause-small_y : goal.plus_product-sum-requires-clause-small_y
+plus_product-sum-requires-clause-small_y c =
     let s = c.args.self.now in
     let i = c.loop-i.i in
     let k = c.args.k in
-    let x = c.number-in-loop-i.result in
-    let y = entry s.bounds i k in
-    let fx : SFits w64 x = search rules in
+    let y = at (get_or (take c.unknowns-n.result s.bounds) i []) k in
+    let r : get_or (take c.unknowns-n.result s.bounds) i [] ≡ get_or s.bounds i [] = get_or-take c.unknowns-n.result s.bounds i [] (omega arith) in
     let fy : SFits w64 y = search rules in
-    let b : entry (nest_of s).bounds i k ≡ y = entry-inside (s.kept.p + 1) s.kept.n s.bounds i k (omega arith) (omega arith) in
-    let hx : nat_abs x ≤ 300 = subst (λ z. nat_abs z ≤ 300) (sym c.number-in-loop-i.ensures.value) (s.cells_small c.args.cell i) in
+    let b : entry (nest_of s).bounds i k ≡ y = entry-inside (s.kept.p + 1) s.kept.n s.bounds i k (omega (arith, c.unknowns-n.ensures.value)) (omega arith) ∙ ap (λ (row : List ℤ). at row k) (sym r) in
     let hy : nat_abs y ≤ 300 = subst (λ z. nat_abs z ≤ 300) b (s.bounds_small i k) in
-    record { small_sum = omega (arith, c.loop-i.invariant.0); small_x = simp to_z-of_z (omega (arith, hx)); small_y = simp to_z-of_z (omega (arith, hy)) }
-
-pub loop-i-init : goal.loop-i-init
-loop-i-init c =
-    let s = c.args.self.now in
-    let x = c.number.result in
-    let f : SFits w64 x = search rules in
-    let e : x ≡ entry (nest_of s).cells c.args.cell (s.kept.n + c.args.k) =
-    c.number.ensures.value ∙ ap (λ n. entry (nest_of s).cells c.args.cell (n + c.args.k)) c.unknowns-n.ensures.value in
-    let D = dot (get_or (nest_of s).cells c.args.cell []) (column (nest_of s).bounds c.args.k) in
-    let g = to_z-of_z w64 x f ∙ e in
-    (subst (λ z. nat_abs z ≤ 300) (sym g) (s.cells_small c.args.cell (s.kept.n + c.args.k)), ap (λ z. z +ℤ D) g)
+    simp to_z-of_z (omega (arith, hy))
 
 pub loop-i-preserved : goal.loop-i-preserved
 loop-i-preserved c =
@@ -44,11 +32,12 @@ loop-i-preserved c =
     let C = get_or (nest_of s).cells c.args.cell [] in
     let U = column (nest_of s).bounds k in
     let x = c.number-in-loop-i.result in
-    let y = entry s.bounds i k in
+    let y = at (get_or (take c.unknowns-n.result s.bounds) i []) k in
+    let r : get_or (take c.unknowns-n.result s.bounds) i [] ≡ get_or s.bounds i [] = get_or-take c.unknowns-n.result s.bounds i [] (omega arith) in
     let t = c.loop-i.sum.value in
     let fx : SFits w64 x = search rules in
     let fy : SFits w64 y = search rules in
-    let b : at U i ≡ y = at-column (nest_of s).bounds k i ∙ entry-inside (s.kept.p + 1) s.kept.n s.bounds i k (omega arith) (omega arith) in
+    let b : at U i ≡ y = at-column (nest_of s).bounds k i ∙ (entry-inside (s.kept.p + 1) s.kept.n s.bounds i k (omega (arith, c.unknowns-n.ensures.value)) (omega arith) ∙ ap (λ (row : List ℤ). at row k) (sym r)) in
     let v : c.plus_product-sum.result.value ≡ t +ℤ (x *ℤ y) = simp to_z-of_z at c.plus_product-sum.ensures in
     let u : x *ℤ y ≡ at C i *ℤ at U i = rw (c.number-in-loop-i.ensures.value, b) in
     let hy : nat_abs (at U i) ≤ 300 = subst (λ z. nat_abs z ≤ 300) (sym (at-column (nest_of s).bounds k i)) (s.bounds_small i k) in
