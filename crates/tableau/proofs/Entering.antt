@@ -165,9 +165,3 @@ module _ (hs : List Row) (i : Row) where
       go None h = λ l. elim (dec_le (suc l) 9) [ yes lt ↦ h l lt | no ge ↦ is_le (past l (omega arith)) ]
       go (Some b) h = (h.0, h.1, λ l ne q. elim (dec_le (suc l) 9) [ yes lt ↦ h.2 l lt ne q | no ge ↦ clash_ℤ q (is_le (past l (omega arith))) ])
 
--- one turn of the loop: what is left gives the entering column
-pub enter-more : (hs : List Row) (i : Row) (j : ℕ) (best next : Option ℕ) → j < length i.coefs → cond (lt_z (pos 0) (at i.coefs j)) (better hs i j best) best ≡ next → entering_from hs i j (drop j i.coefs) best ≡ entering_from hs i (j + 1) (drop (j + 1) i.coefs) next
-enter-more hs i j best next lt e =
-    let more : entering_from hs i j (drop j i.coefs) best ≡ entering_from hs i (suc j) (drop (j + 1) i.coefs) (cond (lt_z (pos 0) (at i.coefs j)) (better hs i j best) best) =
-    at_drop_more (λ xs. entering_from hs i j xs best) i.coefs j (pos 0) lt in
-    more ∙ ap (entering_from hs i (suc j) (drop (j + 1) i.coefs)) e ∙ ap (λ k. entering_from hs i k (drop (j + 1) i.coefs) next) (sym (add-one j))
