@@ -1,8 +1,8 @@
 -- The entering column is the best of those above 0.
-use Rattle.std.proofs.Common.{◌≡◌, ℕ, suc, ◌+◌, ◌<◌, ◌≤◌, Bool, true, false, cond, not, T, ◌⊎◌, List, [], ◌∷◌, length, drop, ℤ, pos, ◌*ℤ◌, ◌≤ℤ◌, ◌<ℤ◌, Some, None, Option, sym, refl, ap, ◌∙◌, subst, inl, inr, add-zero, add-one, arith}
+use Rattle.std.proofs.Common.{◌≡◌, ℕ, suc, ◌+◌, ◌<◌, ◌≤◌, Bool, true, false, cond, not, T, ◌⊎◌, List, [], ◌∷◌, length, ℤ, pos, ◌*ℤ◌, ◌≤ℤ◌, ◌<ℤ◌, Some, None, Option, sym, refl, ap, ◌∙◌, subst, inl, inr, add-zero, arith}
 use native.Mathlib.Decide.{ℕ_discrete, dec_le}
 use lib.Signed.{lt_z, lt_z_yes, lt_z_no, clash_ℤ}
-use Rattle.std.proofs.lemmas.List.{at_drop_more, get_or_past}
+use Rattle.std.proofs.lemmas.List.{get_or_past}
 use Rattle.std.proofs.lemmas.Int.{by_lt_z, ints}
 use Rattle.std.proofs.lemmas.Bool.{both_ways}
 use Rattle.base.specs.Numbers.{at}
@@ -164,10 +164,3 @@ module _ (hs : List Row) (i : Row) where
       go : (r : Option ℕ) → Best hs i 9 r → Enters hs i r
       go None h = λ l. elim (dec_le (suc l) 9) [ yes lt ↦ h l lt | no ge ↦ is_le (past l (omega arith)) ]
       go (Some b) h = (h.0, h.1, λ l ne q. elim (dec_le (suc l) 9) [ yes lt ↦ h.2 l lt ne q | no ge ↦ clash_ℤ q (is_le (past l (omega arith))) ])
-
--- one turn of the loop: what is left gives the entering column
-pub enter-more : (hs : List Row) (i : Row) (j : ℕ) (best next : Option ℕ) → j < length i.coefs → cond (lt_z (pos 0) (at i.coefs j)) (better hs i j best) best ≡ next → entering_from hs i j (drop j i.coefs) best ≡ entering_from hs i (j + 1) (drop (j + 1) i.coefs) next
-enter-more hs i j best next lt e =
-    let more : entering_from hs i j (drop j i.coefs) best ≡ entering_from hs i (suc j) (drop (j + 1) i.coefs) (cond (lt_z (pos 0) (at i.coefs j)) (better hs i j best) best) =
-    at_drop_more (λ xs. entering_from hs i j xs best) i.coefs j (pos 0) lt in
-    more ∙ ap (entering_from hs i (suc j) (drop (j + 1) i.coefs)) e ∙ ap (λ k. entering_from hs i k (drop (j + 1) i.coefs) next) (sym (add-one j))

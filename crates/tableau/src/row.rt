@@ -29,7 +29,7 @@ fn divisor_of(row: &Row) -> Divisor
 }
 
 /// Inner: the row in lowest terms; its divisor is 1 or more.
-pub fn lowest(row: Row) -> Row
+pub fn lowest(mut row: Row) -> Row
     requires { pos 0 <ℤ row.div }
     ensures value { result ≡ lowest row }
     ensures terms { LowestTerms row result }
@@ -38,15 +38,10 @@ pub fn lowest(row: Row) -> Row
     if by.value == 1 {
         return row;
     }
-    let mut coefs = row.coefs;
-    let mut form = row.form;
-    divide(by, &mut coefs);
-    divide(by, &mut form);
-    Row {
-        coefs,
-        form,
-        div: quotient(by, row.div),
-    }
+    divide(by, &mut row.coefs);
+    divide(by, &mut row.form);
+    row.div = quotient(by, row.div);
+    row
 }
 
 /// Inner: x * y, of two numbers in range.
@@ -75,14 +70,14 @@ pub fn combine(p: Pair, xs: &mut [i64], ys: &[i64])
     requires small_ys { AllWithin (2 ^ 30) ys.now }
     ensures { xs.new ≡ combined p.a p.b xs.old ys.now }
 {
-    // by place and not by a zip with ys: of what is written through one, no value is known afterwards
+    // no zip with ys: its contract says nothing of what is written through it, so the proof would not close
     for (k, x) in xs.iter_mut().enumerate() {
         *x = cross(p, *x, ys[k]);
     }
 }
 
 /// Inner: the row h after the pivot at column j of row i, in lowest terms.
-pub fn pivoted(h: Row, i: &Row, j: usize) -> Row
+pub fn pivoted(mut h: Row, i: &Row, j: usize) -> Row
     requires column { j < 9 }
     requires above { pos 0 <ℤ at i.now.coefs j }
     requires sound_h { Sound h }
@@ -95,14 +90,9 @@ pub fn pivoted(h: Row, i: &Row, j: usize) -> Row
         return h;
     }
     let factors = Pair { a: i.coefs[j], b };
-    let mut coefs = h.coefs;
-    let mut form = h.form;
-    combine(factors, &mut coefs, &i.coefs);
-    combine(factors, &mut form, &i.form);
-    coefs[j] = times(b, i.div);
-    lowest(Row {
-        coefs,
-        form,
-        div: times(factors.a, h.div),
-    })
+    combine(factors, &mut h.coefs, &i.coefs);
+    combine(factors, &mut h.form, &i.form);
+    h.coefs[j] = times(b, i.div);
+    h.div = times(factors.a, h.div);
+    lowest(h)
 }

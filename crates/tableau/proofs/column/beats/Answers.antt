@@ -1,12 +1,21 @@
-use Rattle.std.proofs.Common.{◌+◌, drop, get_or, ap, w64, SFits, of_z, rules}
-use Rattle.std.proofs.lemmas.List.{at_drop_more}
+use Rattle.std.proofs.Common.{◌^◌, ◌≤◌, nat_abs, ◌+◌, drop, get_or, ap, w64, SFits, of_z, rules}
+use Rattle.std.proofs.lemmas.List.{at_drop_more, get_or_default}
 use Rattle.std.proofs.lemmas.Int.{to_z-of_z}
 use Rattle.base.specs.Numbers.{at}
+use Rattle.base.proofs.There.{forth}
 use Rattle.tableau.specs.Columns.{beats}
 use Rattle.tableau.specs.Tables.{no_row, top}
 use Rattle.tableau.proofs.Bits.{product-bits, same_bits}
-use Rattle.tableau.proofs.Searches.{less-differ, less-same}
+use Rattle.tableau.proofs.Searches.{less-differ, less-same, top-sound}
 use Rattle.tableau.proofs.column.beats.Goals as goal
+
+pub times-y-requires-clause-small_x : goal.times-y-requires-clause-small_x
+times-y-requires-clause-small_x c =
+    let t = c.args.t.now in
+    let k = c.loop-h.h-index in
+    let h = get_or (top t) k no_row in
+    let s = top-sound t c.requires.ready h k c.loop-h-test.true (get_or_default (top t) k no_row h c.loop-h-test.true) in
+    forth (λ z. nat_abs z ≤ 2 ^ 30) (at h.coefs c.args.l) (search rules) (s.coefs_small c.args.l)
 
 pub returns-then-x-y : goal.returns-then-x-y
 returns-then-x-y c =
