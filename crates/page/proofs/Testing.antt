@@ -1,10 +1,8 @@
 -- The tests of numbers, place by place.
-use Rattle.std.proofs.Common.{◌≡◌, ℕ, zero, suc, ◌+◌, ◌-◌, ◌^◌, Bool, not, ◌&&◌, cond, ltb, List, [], ◌∷◌, take, ℤ, pos, refl, ap, ◌∙◌, ap₂, add-one, arith}
-use lib.Signed.{le_z}
+use Rattle.std.proofs.Common.{◌≡◌, ℕ, zero, suc, ◌+◌, ◌-◌, ◌&&◌, cond, ltb, List, [], ◌∷◌, ℤ, refl, ap, ◌∙◌, ap₂, add-one, arith}
 use Rattle.std.specs.List.{enumerate_from, list_all}
 use Rattle.std.proofs.lemmas.Bool.{cond-false, cond-true, le-ltb, lt-ltb}
-use Rattle.tree.specs.Finds.{all_below}
-use Rattle.page.specs.Fits.{all_zero, fits_from, form_fits, leaf_fits, new_fits, number_fits}
+use Rattle.page.specs.Fits.{all_zero, fits_from, form_fits, leaf_fits, number_fits}
 
 fits-is : (p made k : ℕ) (C : List ℤ) → list_all (λ q. number_fits p made q.0 q.1) (enumerate_from k C) ≡ fits_from p made k C
 fits-is p made k [] = refl
@@ -26,9 +24,3 @@ leaf-from n p made k (suc m) (C ∷ Cs) e = ap₂ ◌&&◌ (cond-true (ltb k n) 
 -- each form with its place
 pub leaf-is : (n p made : ℕ) (Cs : List (List ℤ)) → list_all (λ q. cond (ltb q.0 n) (form_fits p made q.1) (all_zero q.1)) (enumerate_from 0 Cs) ≡ leaf_fits n p made Cs
 leaf-is n p made Cs = leaf-from n p made 0 n Cs (omega arith)
-
--- ---- a new parameter
-
-pub new_is : (p made : ℕ) (d : ℤ) (T : List ℤ) (a f b z : Bool) → a ≡ (le_z (pos 2) d && le_z d (pos (2 ^ 30))) → f ≡ form_fits p made T → b ≡ all_below d T → z ≡ all_zero (take 9 T) → (a && (f && (b && not z))) ≡ new_fits p made d T
-unfolding new_fits
-new_is p made d T a f b z ea ef eb ez = λ i. ea i && (ef i && (eb i && not (ez i)))

@@ -14,7 +14,7 @@ use Rattle.page.specs.declared.back.Placed.{Placed}
 use Rattle.base.specs.declared.refusal.Refusal.{Refusal}
 use Rattle.tree.specs.Finds.{head_fits}
 use Rattle.page.specs.declared.check.Top.{Top}
-use Rattle.page.specs.Records.{Kind, Opened, body_length, flawed, head, keep, leaf, new, none, one, opened, split}
+use Rattle.page.specs.Records.{Kind, Opened, flawed, head, keep, leaf, new, none, one, opened, split}
 
 abbrev pub kind_in : Record → Kind
 kind_in (Head b) = head
@@ -38,10 +38,6 @@ Reads (one k b r) (Ok q) = (kind_in q.0 ≡ k) × ((body_in q.0 ≡ b) × (q.1.n
 Reads (one k b r) (Err f) = ⊥
 Reads (flawed e) (Ok q) = ⊥
 Reads (flawed e) (Err f) = f ≡ e
-
--- its body has the length that its kind fixes
-abbrev pub Long : Record → Type 0
-Long r = length (body_in r) ≡ body_length (kind_in r)
 
 -- the kind of the record may stand there
 abbrev pub Allowed : ℕ → ℕ → Kind → Type 0

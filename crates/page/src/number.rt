@@ -90,6 +90,7 @@ fn all_zero(xs: &[i32]) -> bool
 }
 
 /// Whether a new parameter floor(T / d) is within the limits.
+#[tactic(auto, unfolding(crate::specs::Fits::new_fits))]
 pub fn new_fits(d: i32, form: &NodeForm, p: u8, made: u8) -> bool
     ensures value { result ≡ new_fits p made d form.now }
 {
