@@ -1,62 +1,20 @@
 -- The check of a page, record by record, against the reading.
-use Rattle.std.proofs.Common.{◌≡◌, ℕ, zero, suc, ◌+◌, ◌-◌, ◌<◌, Bool, true, false, cond, eqb, ltb, List, [], ◌∷◌, map, length, get_or, take, drop, ℤ, IfOk, Some, None, Ok, Err, Option, Result, sym, refl, ap, ◌∙◌, subst, ap₂, add-one, arith, length-append, w8, Fits, Bor}
+use Rattle.std.proofs.Common.{◌≡◌, ℕ, zero, suc, ◌+◌, ◌-◌, ◌<◌, true, false, ltb, List, [], ◌∷◌, map, length, get_or, take, drop, ℤ, Some, None, Ok, Err, Result, sym, refl, ap, ◌∙◌, subst, ap₂, add-one, arith, length-append, w8, Fits, Bor}
 use Rattle.std.proofs.lemmas.List.{length-map}
-use Rattle.std.proofs.lemmas.Bool.{cond_both, cond-false, cond-true, eqb-false, eqb-true, false≢true, ltb-true}
+use Rattle.std.proofs.lemmas.Bool.{cond_both, cond-false, cond-true, eqb-true, false≢true}
 use Rattle.tree.specs.Trees.{Tree, split, new, leaf, none, nodes}
-use Rattle.base.specs.declared.refusal.Refusal.{Refusal}
 use Rattle.tree.specs.declared.node.Node.TheVariants.{Keep as Keep'}
 use Rattle.page.specs.declared.check.Fault.{Fault}
 use Rattle.page.specs.declared.check.Top.{Top}
 use Rattle.page.specs.declared.record.Flaw.{Flaw}
-use Rattle.page.specs.declared.record.Flaw.TheVariants.{Length as FlawLength, Number as FlawNumber, Kind as FlawKind, Depth as FlawDepth}
+use Rattle.page.specs.declared.record.Flaw.TheVariants.{Length as FlawLength, Number as FlawNumber}
 use Rattle.page.specs.declared.record.Record.{Record}
 use Rattle.page.specs.declared.record.Record.TheVariants.{Head, Keep, Split, New, Leaf, None as NoRecord}
 use Rattle.page.specs.Words.{Bytes, forms, word, words}
 use Rattle.page.specs.Fits.{form_fits, leaf_fits, new_fits}
-use Rattle.page.specs.Records.{Kind, Opened, body_length, flawed, kind_of, one, opened, opened_as, head as head_kind, keep as keep_kind, split as split_kind, new as new_kind, leaf as leaf_kind, none as none_kind}
-use Rattle.page.specs.Readings.{Out, below, done, ended, fault, whole, keep, keep_at, keeps, keeps_from, node, objection, opening, parse, taking, then, unless}
-use Rattle.page.specs.Pages.{checked, checked_as, refusal_of}
+use Rattle.page.specs.Records.{Kind, Opened, body_length, flawed, one, opened, opened_as, head as head_kind, keep as keep_kind, split as split_kind, new as new_kind, leaf as leaf_kind, none as none_kind}
+use Rattle.page.specs.Readings.{Out, below, done, ended, fault, whole, keep, keep_at, keeps, keeps_from, node, opening, parse, taking, then}
 use Rattle.page.specs.Ties.{Agrees, Allowed, HeadReads, Inside, WholeReads, Reads, body_in, keep_count, keep_first, kind_in, node_count, record_fits}
-
--- ---- the record that stands first
-
-pub opening-none : (made left : ℕ) (L : List ℕ) → 0 < length L → None ≡ objection made left (kind_of (get_or L 0 0)) → opening made left L ≡ opened L
-opening-none made left [] lt e = absurd (let no : ⊥ = omega arith in no)
-opening-none made left (b ∷ bs) lt e = ap (λ o. unless o (opened (b ∷ bs))) (sym e)
-
-pub opening-some : (made left : ℕ) (L : List ℕ) (flaw : Flaw) → 0 < length L → Some flaw ≡ objection made left (kind_of (get_or L 0 0)) → Reads (opening made left L) (Err flaw)
-opening-some made left [] flaw lt e = absurd (let no : ⊥ = omega arith in no)
-opening-some made left (b ∷ bs) flaw lt e = subst (λ o. Reads (unless o (opened (b ∷ bs))) (Err flaw)) e refl
-
-kind-opened : (k : Kind) (bs : List ℕ) (q : Record × Bor (List ℕ)) → Reads (opened_as (Some k) bs) (Ok q) → kind_in q.0 ≡ k
-kind-opened k bs q =
-    cond_both (ltb (length bs) (body_length k)) (flawed _) (one k (take (body_length k) bs) (drop (body_length k) bs)) (λ o. Reads o (Ok q) → kind_in q.0 ≡ k) (λ _ s. absurd s) (λ _ s. s.0)
-
-some-none : (e : Flaw) (X : Type 0) → ◌≡◌ {A = Option Flaw} (Some e) None → X
-some-none e X p = let z : ◌≡◌ {A = ℕ} 0 1 = cc in absurd (let no : ⊥ = omega arith in no)
-
-allowed_of : (made left : ℕ) (k : Kind) → objection made left (Some k) ≡ None → Allowed made left k
-allowed_of made left head_kind e = tt
-allowed_of made left keep_kind e = tt
-allowed_of made left split_kind e = go (eqb left 0) refl e where
-  go : (b : Bool) → eqb left 0 ≡ b → cond b (Some FlawDepth) None ≡ None → 0 < left
-  go true is e = some-none FlawDepth (0 < left) e
-  go false is e = let h = eqb-false left 0 is in omega (arith, h)
-allowed_of made left new_kind e = go (ltb made 5) refl e where
-  go : (b : Bool) → ltb made 5 ≡ b → cond b None (Some FlawDepth) ≡ None → made < 5
-  go true is e = ltb-true made 5 is
-  go false is e = some-none FlawDepth (made < 5) e
-allowed_of made left leaf_kind e = tt
-allowed_of made left none_kind e = tt
-
-allowed-as : (made left : ℕ) (o : Option Kind) (bs : List ℕ) (r : Result (Record × Bor (List ℕ)) Flaw) → objection made left o ≡ None → Reads (opened_as o bs) r → IfOk r (λ q. Allowed made left (kind_in q.0))
-allowed-as made left o bs (Err f) e s = tt
-allowed-as made left None bs (Ok q) e s = absurd s
-allowed-as made left (Some k) bs (Ok q) e s = subst (Allowed made left) (sym (kind-opened k bs q s)) (allowed_of made left k e)
-
-pub allowed_at : (made left : ℕ) (L : List ℕ) (r : Result (Record × Bor (List ℕ)) Flaw) → 0 < length L → None ≡ objection made left (kind_of (get_or L 0 0)) → Reads (opened L) r → IfOk r (λ q. Allowed made left (kind_in q.0))
-allowed_at made left [] r lt e s = absurd (let no : ⊥ = omega arith in no)
-allowed_at made left (b ∷ bs) r lt e s = allowed-as made left (kind_of b) bs r (sym e) s
 
 -- ---- a node
 
@@ -175,12 +133,6 @@ split-node-second n p made left L b after second c f r lt s e a a' is =
     (then_ok node_count node_count (tree n p made (left - 1) after.now) (λ t l. then (tree n p made (left - 1) l) (λ u k. done (split C t u) k)) (second, c) (Err f) a (λ t d.
     then-err node_count node_count (tree n p made (left - 1) second.now) (λ u k. done (split C t u) k) f a')))
 
-pub head-node : (n p made left : ℕ) (at : Bor (List ℕ)) (b after : Bor (List ℕ)) → Reads (opening made left at.now) (Ok (Head b, after)) → Agrees node_count (tree n p made left at.now) (Err (record { flaw = FlawKind; at = at }))
-head-node n p made left at b after s = refused node_count (tree n p made left at.now) FlawKind at (tree-opened n p made left at.now (Head b, after) s)
-
-pub keep-node : (n p made left : ℕ) (at : Bor (List ℕ)) (b after : Bor (List ℕ)) → Reads (opening made left at.now) (Ok (Keep b, after)) → Agrees node_count (tree n p made left at.now) (Err (record { flaw = FlawKind; at = at }))
-keep-node n p made left at b after s = refused node_count (tree n p made left at.now) FlawKind at (tree-opened n p made left at.now (Keep b, after) s)
-
 -- the record that was read, by its kind
 pub taken : (n p made left : ℕ) (L : List ℕ) (first r : Record) (after : Bor (List ℕ)) → first ≡ r → Reads (opening made left L) (Ok (first, after)) → Allowed made left (kind_in first) → true ≡ record_fits n p made (kind_in first) (body_in first) → Reads (opening made left L) (Ok (r, after)) × (Allowed made left (kind_in r) × (true ≡ record_fits n p made (kind_in r) (body_in r)))
 taken n p made left L first r after is s a f = subst (λ x. Reads (opening made left L) (Ok (x, after)) × (Allowed made left (kind_in x) × (true ≡ record_fits n p made (kind_in x) (body_in x)))) is (s, (a, f))
@@ -249,6 +201,10 @@ pub keeps-err : (p c : ℕ) (L : List ℕ) (b after : Bor (List ℕ)) (f : Fault
 keeps-err p c L b after f r lt e s w a is =
     subst (Agrees keep_count (keeps p c L)) (sym is) (keeps-is p c L b after (Err f) lt e s w (then-err keep_count keep_count (keeps p (c - 1) after.now) (λ Cs l. done (words 10 b.now ∷ Cs) l) f a))
 
+kind-opened : (k : Kind) (bs : List ℕ) (q : Record × Bor (List ℕ)) → Reads (opened_as (Some k) bs) (Ok q) → kind_in q.0 ≡ k
+kind-opened k bs q =
+    cond_both (ltb (length bs) (body_length k)) (flawed _) (one k (take (body_length k) bs) (drop (body_length k) bs)) (λ o. Reads o (Ok q) → kind_in q.0 ≡ k) (λ _ s. absurd s) (λ _ s. s.0)
+
 of-keep : (r : Record) → kind_in r ≡ keep_kind → (b : Bor (List ℕ)) × (r ≡ Keep b)
 of-keep (Head b) e = let z : ◌≡◌ {A = ℕ} 0 1 = cc in absurd (let no : ⊥ = omega arith in no)
 of-keep (Keep b) e = (b, refl)
@@ -307,9 +263,3 @@ whole-over bs top q e h a i b j z =
 pub bytes_of : (l : List ℕ) → ((i : ℕ) → Fits w8 (get_or l i 0)) → Bytes l
 bytes_of [] h = tt
 bytes_of (b ∷ bs) h = ((h 0).fits, bytes_of bs (λ i. h (suc i)))
-
-pub answer_ok : (bs : List ℕ) (k : ℕ) → WholeReads bs (Ok k) → Ok k ≡ checked bs
-answer_ok bs k w = ap Ok w.1.1.1 ∙ sym (ap (checked_as bs) w.1.1.0)
-
-pub answer_err : (bs : List ℕ) (f : Fault) (e : Refusal) → WholeReads bs (Err f) → e ≡ refusal_of f.flaw (length bs - length f.at.now) → Err e ≡ checked bs
-answer_err bs f e w is = ap Err is ∙ sym (ap (checked_as bs) w.0)

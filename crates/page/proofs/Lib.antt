@@ -2,7 +2,6 @@ mod Checking
 mod Chunks
 pub mod Fitting
 pub mod Holding
-pub mod Opening
 pub mod Pasting
 pub mod Reading
 pub mod Regained

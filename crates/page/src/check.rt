@@ -60,21 +60,9 @@ impl Below {
         ensures value { result ≡ objection self.now.made self.now.left (kind_of kind) }
     {
         match Kind::try_from(kind) {
-            Ok(Kind::Split) => {
-                if self.left == 0 {
-                    Some(Flaw::Depth)
-                } else {
-                    None
-                }
-            }
-            Ok(Kind::New) => {
-                if self.made < 5 {
-                    None
-                } else {
-                    Some(Flaw::Depth)
-                }
-            }
-            Ok(Kind::Leaf | Kind::None) => None,
+            Ok(Kind::Split) if self.left == 0 => Some(Flaw::Depth),
+            Ok(Kind::New) if self.made >= 5 => Some(Flaw::Depth),
+            Ok(Kind::Split | Kind::New | Kind::Leaf | Kind::None) => None,
             Ok(Kind::Head | Kind::Keep) | Err(_) => Some(Flaw::Kind),
         }
     }

@@ -3,6 +3,8 @@ use base::refusal::Refusal;
 use page::back::node_at;
 use page::check::check;
 use page::write::{cost, write};
+use std::alloc::{AllocError, Global};
+use std::array;
 use std::process::Abort;
 use tree::node::{Node, NodeForm};
 
@@ -64,9 +66,8 @@ fn the_worked_tree_takes_571_bytes_and_reads_back(rt: HostRuntime) {
     let mut page = [0; 571];
     assert_eq!(rt; put_all(&half(), &mut page), 571);
     assert_eq!(rt; check(&page), Ok(5));
-    let nodes = half();
-    for i in 0..5 {
-        assert_eq!(rt; node_at(&page, i), nodes[i]);
+    for (i, node) in half().iter().enumerate() {
+        assert_eq!(rt; node_at(&page, i), *node);
     }
     assert_eq!(rt; node_at(&page, 5), Node::None);
 }
@@ -111,142 +112,154 @@ fn each_refusal_carries_its_offset(rt: HostRuntime) {
 
 // ---- a plain check
 
+/// Zero where the page has ended.
 fn byte(page: &[u8], at: usize) -> u8 {
-    match page.get(at) {
-        Some(b) => *b,
-        None => 0,
-    }
+    page.get(at).copied().unwrap_or(0)
 }
 
 fn number(page: &[u8], at: usize) -> i32 {
-    i32::from_be_bytes([
-        byte(page, at),
-        byte(page, at.wrapping_add(1)),
-        byte(page, at.wrapping_add(2)),
-        byte(page, at.wrapping_add(3)),
-    ])
+    i32::from_be_bytes(array::from_fn(|k| byte(page, at.wrapping_add(k))))
+}
+
+fn ten_numbers(page: &[u8], at: usize) -> NodeForm {
+    array::from_fn(|k| number(page, at.wrapping_add(k.wrapping_mul(4))))
+}
+
+/// The sizes that a head gives.
+#[derive(Clone, Copy)]
+struct Sizes {
+    n: u8,
+    p: u8,
 }
 
 /// Whether one of ten numbers is larger than 2^30 in size, or stands where none may: at a parameter that is
 /// not one of p, at a new parameter that is not one of `made`.
-fn bad_form(page: &[u8], at: usize, p: u8, made: u8) -> bool {
-    for k in 0..10 {
-        let x = number(page, at.wrapping_add(4 * k));
-        let parameter = k < 4 && k >= p as usize;
-        let new = k > 3 && k < 9 && k >= (made as usize).wrapping_add(4);
-        if x > 1 << 30 || x < -(1 << 30) || ((parameter || new) && x != 0) {
-            return true;
-        }
-    }
-    false
+fn bad_form(form: &NodeForm, p: u8, made: u8) -> bool {
+    form.iter().enumerate().any(|(k, x)| {
+        let parameter = k < 4 && k >= usize::from(p);
+        let new = k > 3 && k < 9 && k >= usize::from(made).wrapping_add(4);
+        *x > 1 << 30 || *x < -(1 << 30) || ((parameter || new) && *x != 0)
+    })
 }
 
-fn bad_new(page: &[u8], at: usize, p: u8, made: u8) -> bool {
-    let d = number(page, at);
-    let mut named = false;
-    for k in 0..10 {
-        let x = number(page, at.wrapping_add(4).wrapping_add(4 * k));
-        if x < 0 || x >= d {
-            return true;
-        }
-        if k < 9 && x > 0 {
-            named = true;
-        }
-    }
-    d < 2 || d > 1 << 30 || !named || bad_form(page, at.wrapping_add(4), p, made)
+fn bad_new(d: i32, form: &NodeForm, p: u8, made: u8) -> bool {
+    let named = form[..9].iter().any(|x| *x > 0);
+    let beyond = form.iter().any(|x| *x < 0 || *x >= d);
+    beyond || d < 2 || d > 1 << 30 || !named || bad_form(form, p, made)
 }
 
-fn bad_leaf(page: &[u8], at: usize, n: u8, p: u8, made: u8) -> bool {
-    for f in 0..6 {
-        let from = at.wrapping_add(40 * f);
-        if f < n as usize {
-            if bad_form(page, from, p, made) {
-                return true;
-            }
+fn bad_leaf(page: &[u8], at: usize, sizes: Sizes, made: u8) -> bool {
+    (0..6usize).any(|f| {
+        let form = ten_numbers(page, at.wrapping_add(f.wrapping_mul(40)));
+        if f < usize::from(sizes.n) {
+            bad_form(&form, sizes.p, made)
         } else {
-            for k in 0..40 {
-                if byte(page, from.wrapping_add(k)) != 0 {
-                    return true;
-                }
-            }
+            form.iter().any(|x| *x != 0)
         }
-    }
-    false
+    })
 }
 
-/// The trees that are still to come, the next one last: how many splits may stand in each, and how
-/// many new parameters stand above it.
-#[derive(Clone, Copy)]
-struct Due {
-    count: usize,
-    left: [u8; 32],
-    made: [u8; 32],
-}
-
-fn push(mut trees: Due, left: u8, made: u8) -> Due {
-    if trees.count < 32 {
-        trees.left[trees.count] = left;
-        trees.made[trees.count] = made;
-        trees.count += 1;
-    }
-    trees
-}
-
-/// 0, where the record at this place may stand there, or the number of its refusal.
-fn fault(page: &[u8], at: usize, head: (u8, u8), left: u8, made: u8) -> u8 {
-    let (n, p) = head;
+/// Refuses the record at this place if it may not stand there, where so many splits may follow and so many new
+/// parameters stand above.
+fn look(page: &[u8], at: usize, sizes: Sizes, left: u8, made: u8) -> Result<(), Refusal> {
     let kind = byte(page, at);
     let body = at.wrapping_add(1);
     let room = page.len().wrapping_sub(body);
     if at >= page.len() {
-        return 51;
+        return Err(Refusal::PageLength { offset: at });
     }
     if kind < 3 || kind > 6 {
-        return 52;
+        return Err(Refusal::PageKind { offset: at });
     }
     if (kind == 3 && left < 1) || (kind == 4 && made > 4) {
-        return 54;
+        return Err(Refusal::PageDepth { offset: at });
     }
     if (kind == 3 && room < 40) || (kind == 4 && room < 44) || (kind == 5 && room < 240) {
-        return 51;
+        return Err(Refusal::PageLength { offset: at });
     }
-    let bad = (kind == 3 && bad_form(page, body, p, made))
-        || (kind == 4 && bad_new(page, body, p, made))
-        || (kind == 5 && bad_leaf(page, body, n, p, made));
-    if bad { 53 } else { 0 }
+    let bad = match kind {
+        3 => bad_form(&ten_numbers(page, body), sizes.p, made),
+        4 => {
+            let form = ten_numbers(page, body.wrapping_add(4));
+            bad_new(number(page, body), &form, sizes.p, made)
+        }
+        5 => bad_leaf(page, body, sizes, made),
+        _ => false,
+    };
+    if bad {
+        Err(Refusal::PageNumber { offset: at })
+    } else {
+        Ok(())
+    }
 }
 
-/// The trees of a page from a place on, by a list of what is still due: 0 and the count of records, or a refusal
-/// and its place.
-fn plain_trees(page: &[u8], start: usize, head: (u8, u8), records: usize) -> (u8, usize) {
-    let mut at = start;
-    let mut count = records;
-    let none = Due {
-        count: 0,
-        left: [0; 32],
-        made: [0; 32],
+/// What was read of a page: the head's sizes, where the next record begins, and how many there were.
+#[derive(Clone, Copy)]
+struct Top {
+    sizes: Sizes,
+    at: usize,
+    records: usize,
+}
+
+/// The head and the keeps.
+fn plain_top(page: &[u8]) -> Result<Top, Refusal> {
+    let sizes = Sizes {
+        n: byte(page, 1),
+        p: byte(page, 2),
     };
-    let mut trees = push(none, 12, 0);
-    for _ in 0..1000 {
-        if trees.count == 0 || trees.count > 32 {
+    if page.is_empty() {
+        return Err(Refusal::PageLength { offset: 0 });
+    }
+    if byte(page, 0) != 1 {
+        return Err(Refusal::PageKind { offset: 0 });
+    }
+    if page.len() < 3 {
+        return Err(Refusal::PageLength { offset: 0 });
+    }
+    if sizes.n < 1 || sizes.n > 6 || sizes.p > 4 {
+        return Err(Refusal::PageNumber { offset: 0 });
+    }
+    let mut at: usize = 3;
+    let mut records: usize = 1;
+    for _ in 0..8 {
+        if byte(page, at) != 2 {
             break;
         }
-        trees.count -= 1;
-        let left = trees.left[trees.count];
-        let made = trees.made[trees.count];
-        let code = fault(page, at, head, left, made);
-        if code != 0 {
-            return (code, at);
+        if page.len().wrapping_sub(at) < 41 {
+            return Err(Refusal::PageLength { offset: at });
         }
-        count = count.wrapping_add(1);
+        if bad_form(&ten_numbers(page, at.wrapping_add(1)), sizes.p, 0) {
+            return Err(Refusal::PageNumber { offset: at });
+        }
+        at = at.wrapping_add(41);
+        records = records.wrapping_add(1);
+    }
+    Ok(Top { sizes, at, records })
+}
+
+/// The trees below, by a list of those that are still to come, the next one last: how many splits may stand in
+/// each, and how many new parameters stand above it.
+fn plain_trees(heap: Global, page: &[u8], top: &Top) -> Result<Result<usize, Refusal>, AllocError> {
+    let mut at = top.at;
+    let mut records = top.records;
+    let mut due: Vec<(u8, u8)> = Vec::new(heap);
+    due.push((12, 0))?;
+    for _ in 0..1000 {
+        let Some((left, made)) = due.pop() else {
+            break;
+        };
+        if let Err(refusal) = look(page, at, top.sizes, left, made) {
+            return Ok(Err(refusal));
+        }
+        records = records.wrapping_add(1);
         match byte(page, at) {
             3 => {
-                trees = push(trees, left.wrapping_sub(1), made);
-                trees = push(trees, left.wrapping_sub(1), made);
+                due.push((left.wrapping_sub(1), made))?;
+                due.push((left.wrapping_sub(1), made))?;
                 at = at.wrapping_add(41);
             }
             4 => {
-                trees = push(trees, left, made.wrapping_add(1));
+                due.push((left, made.wrapping_add(1)))?;
                 at = at.wrapping_add(45);
             }
             5 => at = at.wrapping_add(241),
@@ -254,91 +267,49 @@ fn plain_trees(page: &[u8], start: usize, head: (u8, u8), records: usize) -> (u8
         }
     }
     if at < page.len() {
-        (51, at)
+        Ok(Err(Refusal::PageLength { offset: at }))
     } else {
-        (0, count)
+        Ok(Ok(records))
     }
 }
 
-fn plain(page: &[u8]) -> (u8, usize) {
-    let n = byte(page, 1);
-    let p = byte(page, 2);
-    if page.len() == 0 {
-        return (51, 0);
+/// What `check` is to answer, as long as there is memory for the list.
+fn plain(heap: Global, page: &[u8]) -> Result<Result<usize, Refusal>, AllocError> {
+    match plain_top(page) {
+        Ok(top) => plain_trees(heap, page, &top),
+        Err(refusal) => Ok(Err(refusal)),
     }
-    if byte(page, 0) != 1 {
-        return (52, 0);
-    }
-    if page.len() < 3 {
-        return (51, 0);
-    }
-    if n < 1 || n > 6 || p > 4 {
-        return (53, 0);
-    }
-    let mut at: usize = 3;
-    let mut kept: usize = 0;
-    for _ in 0..8 {
-        if byte(page, at) != 2 {
-            break;
-        }
-        if page.len().wrapping_sub(at) < 41 {
-            return (51, at);
-        }
-        if bad_form(page, at.wrapping_add(1), p, 0) {
-            return (53, at);
-        }
-        at = at.wrapping_add(41);
-        kept = kept.wrapping_add(1);
-    }
-    plain_trees(page, at, (n, p), kept.wrapping_add(1))
-}
-
-fn told(page: &[u8]) -> (u8, usize) {
-    match check(page) {
-        Ok(count) => (0, count),
-        Err(refusal) => match refusal {
-            Refusal::PageLength { offset } => (51, offset),
-            Refusal::PageKind { offset } => (52, offset),
-            Refusal::PageNumber { offset } => (53, offset),
-            Refusal::PageDepth { offset } => (54, offset),
-            _ => (255, 0),
-        },
-    }
-}
-
-fn same(rt: &impl Abort, page: &[u8]) {
-    let (code, at) = told(page);
-    let (plain_code, plain_at) = plain(page);
-    assert_eq!(rt; code, plain_code);
-    assert_eq!(rt; at, plain_at);
 }
 
 #[test]
-fn every_truncation_is_refused_alike(rt: HostRuntime) {
+fn every_truncation_is_refused_alike(rt: HostRuntime) -> Result<(), AllocError> {
     let page = half_page();
     for end in 0..571 {
-        let (code, _) = told(&page[..end]);
-        assert_eq!(rt; code, 51);
-        same(&rt, &page[..end]);
+        let answer = check(&page[..end]);
+        assert!(rt; matches!(answer, Err(Refusal::PageLength { offset: _ })));
+        assert_eq!(rt; answer, plain(rt.alloc(), &page[..end])?);
     }
-    same(&rt, &page);
+    assert_eq!(rt; check(&page), plain(rt.alloc(), &page)?);
+    Ok(())
 }
 
 /// Whether each other value of a byte is answered alike.
-fn changes(rt: &impl Abort, page: &[u8; 571], i: usize) {
+fn changes(rt: &impl Abort, heap: Global, page: &[u8; 571], i: usize) -> Result<(), AllocError> {
     for d in 1..=255u8 {
         let mut other = *page;
-        if i < 571 {
-            other[i] = page[i].wrapping_add(d);
+        if let Some(b) = other.get_mut(i) {
+            *b = b.wrapping_add(d);
         }
-        same(rt, &other);
+        assert_eq!(rt; check(&other), plain(heap, &other)?);
     }
+    Ok(())
 }
 
 #[test]
-fn every_change_of_a_byte_is_answered_alike(rt: HostRuntime) {
+fn every_change_of_a_byte_is_answered_alike(rt: HostRuntime) -> Result<(), AllocError> {
     let page = half_page();
     for i in 0..571 {
-        changes(&rt, &page, i);
+        changes(&rt, rt.alloc(), &page, i)?;
     }
+    Ok(())
 }

@@ -18,11 +18,6 @@ within-set m (x ∷ xs) zero v h w (suc k) = w (suc k)
 within-set m (x ∷ xs) (suc i) v h w zero = w 0
 within-set m (x ∷ xs) (suc i) v h w (suc k) = within-set m xs i v h (λ j. w (suc j)) k
 
-pub zeros_within : (n m : ℕ) → AllWithin m (replicate n (pos 0))
-zeros_within zero m k = omega arith
-zeros_within (suc n) m zero = omega arith
-zeros_within (suc n) m (suc k) = zeros_within n m k
-
 pub each_within : (ρ : List ℤ) (m : ℕ) → total ρ ≤ m → AllWithin m ρ
 each_within [] m h k = omega arith
 each_within (x ∷ xs) m h zero = omega arith

@@ -6,7 +6,7 @@ use Rattle.page.specs.Readings.{keeps}
 use Rattle.page.specs.Records.{opened}
 use Rattle.page.specs.Ties.{Agrees, Reads, keep_count}
 use Rattle.page.specs.Words.{words}
-use Rattle.page.proofs.Checking.{keeps-err, keeps-flawed, keeps-full, keeps-more, keeps-over, keeps-unfit}
+use Rattle.page.proofs.Checking.{keep-read, keeps-err, keeps-flawed, keeps-full, keeps-more, keeps-over, keeps-unfit}
 use Rattle.page.proofs.check.+keeps.Goals as goal
 use Rattle.page.proofs.check.+keeps.Goals.{then-more-eq0-via-then-more-eq0, then-more-eq0-via-else-more-eq0+then-not-is_keep}
 
@@ -53,3 +53,8 @@ returns-in_ok-end-in-Keep-clause-value t c =
     let w : true ≡ form_fits c.args.p 0 (words 10 b.now) = search rules in
     let some : 0 < c.args.more = omega (arith, c.if-more-eq0.false) in
     keeps-more c.args.p c.args.more c.args.rest.now b c.in_ok-first.after _ _ some c.if-not-is_keep.ensures.value o w c.in_ok-end-in-Keep.ensures.value
+
+pub returns-in_default : goal.returns-in_default
+returns-in_default t c =
+    let s : Reads (opened c.args.rest.now) (Ok (c.in_ok-first.first, c.in_ok-first.after)) = search rules in
+    keep-read c.args.rest.now (c.in_ok-first.first, c.in_ok-first.after) _ c.if-not-is_keep.ensures.value s c.in_default.not-Keep
