@@ -1,16 +1,12 @@
 -- The numbers of a source as rows and forms, place by place and row by row.
 use Rattle.std.proofs.Common.{◌≡◌, ℕ, zero, suc, ◌+◌, ◌-◌, ◌^◌, ◌<◌, ◌≤◌, List, [], ◌∷◌, ◌++◌, map, length, get_or, take, drop, set, ℤ, pos, Ok, Err, Result, sym, refl, ap, ap₂, ◌∙◌, arith}
-use Rattle.std.proofs.lemmas.List.{at_drop_all, at_drop_more, drop-replicate, drop_all, length-take-le, map_more, map_push, set-append_right}
+use Rattle.std.proofs.lemmas.List.{at_drop_more, drop-replicate, length-take-le, map_more, map_push, set-append_right}
 use Rattle.base.specs.declared.refusal.Refusal.{Refusal}
 use Rattle.base.specs.Numbers.{AllWithin, at}
 use Rattle.source.specs.Limits.{numbers_answer}
 use Rattle.tableau.specs.declared.table.Row.{Row}
-use Rattle.tableau.specs.declared.table.Table.{Table}
-use Rattle.tableau.specs.Tables.{in_use, top}
 use Rattle.solver.specs.Solves.{and_then, fitted, form_of, numbers_fit}
-use Rattle.solver.specs.Tests.{unit_rows, zeros}
-use Rattle.solver.specs.Ties.{rest}
-use Rattle.solver.proofs.Starting.{length-units}
+use Rattle.solver.specs.Tests.{zeros}
 
 -- ---- numbers written over the first of so many zeros
 pub front-copied : (w n : ℕ) (xs copied : List ℤ) → copied ≡ take n xs → copied ++ drop n (zeros w) ≡ take n xs ++ zeros (w - n)
@@ -52,23 +48,10 @@ then-err (Err b) x d e = let q : b ≡ d = grind arith in ap Err q
 pub fit-more : (g : List ℤ → List ℤ) (k i : ℕ) (xs : List (List ℤ)) → i < length xs → numbers_answer k (g (get_or xs i [])) ≡ Ok tt → numbers_fit k (map g (drop i xs)) ≡ numbers_fit (k + 1) (map g (drop (i + 1) xs))
 fit-more g k i xs h e = at_drop_more (λ ys. numbers_fit k (map g ys)) xs i [] h ∙ ap (λ a. and_then a (numbers_fit (k + 1) (map g (drop (i + 1) xs)))) e
 
-pub fit-stop : (g : List ℤ → List ℤ) (k i : ℕ) (xs : List (List ℤ)) (d : Refusal) → i < length xs → numbers_answer k (g (get_or xs i [])) ≡ Err d → numbers_fit k (map g (drop i xs)) ≡ Err d
-fit-stop g k i xs d h e = at_drop_more (λ ys. numbers_fit k (map g ys)) xs i [] h ∙ ap (λ a. and_then a (numbers_fit (k + 1) (map g (drop (i + 1) xs)))) e
-
-pub fit-end : (g : List ℤ → List ℤ) (k i : ℕ) (xs : List (List ℤ)) → length xs ≤ i → numbers_fit k (map g (drop i xs)) ≡ Ok tt
-fit-end g k i xs h = at_drop_all (λ ys. numbers_fit k (map g ys)) xs i h
-
 -- ---- one row more
 pub rows_more : (f : List ℤ → Row) (g : List ℤ → List ℤ) (xs : List (List ℤ)) (i : ℕ) (x : Row) → i < length xs → x ≡ f (g (get_or xs i [])) → map f (map g (take i xs)) ++ x ∷ [] ≡ map f (map g (take (i + 1) xs))
 rows_more f g xs i x h e =
     ap (λ y. map f (map g (take i xs)) ++ y ∷ []) e ∙ sym (ap (map f) (map_more g xs i [] h) ∙ map_push f (map g (take i xs)) (g (get_or xs i [])))
-
--- a table of the unknowns alone
-pub unit-parts : (t : Table) (n : ℕ) → in_use t ≡ unit_rows 0 n → t.count ≡ n → t.unknowns ≡ n → (top t ≡ unit_rows 0 n) × (rest t ≡ [])
-unit-parts t n e k u = (
-  ap (λ m. take m t.rows) (u ∙ sym k) ∙ e,
-  let l = ap length e ∙ length-units 0 n in drop_all t.unknowns (in_use t) (omega arith),
-)
 
 -- ---- numbers asked for one by one
 pub fitted-asked : (w : ℕ) (numbers row : List ℤ) → w ≤ length numbers → ((j : ℕ) → j < w → at numbers j ≡ at row j) → take w numbers ≡ fitted w row
