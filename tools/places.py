@@ -80,7 +80,7 @@ def point2():
 
 
 def point3():
-    yield from lines_with(r"\bfor (?!_ )\w+ in [^{]*\.\.", r"\bwhile\b", r"\b(\w+) = \1\.wrapping_add\(1\)")
+    yield from lines_with(r"\bfor (?!_ )\w+ in [^{\[]*\.\.", r"\bwhile\b", r"\b(\w+) = \1\.wrapping_add\(1\)")
 
 
 def point4():

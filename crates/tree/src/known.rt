@@ -9,11 +9,8 @@ ghost use Rattle.tree.specs.Parts.{NoneBelow, total};
 use crate::node::NodeForm;
 use crate::walk::all_below;
 use base::divisor::Divisor;
-use base::form::{Form, Setting, value};
+use base::form::{FIRST_NEW, Form, Setting, value};
 use base::number::floor_div;
-
-/// The place of the first new parameter in a setting.
-const FIRST_NEW: usize = 4;
 
 /// A node's form with wider numbers.
 fn wide(form: &NodeForm) -> Form
