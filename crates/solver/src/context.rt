@@ -13,7 +13,7 @@ pub const FORMS: usize = 31;
 /// places of a form are in use, and `made` of the places of new parameters.
 #[derive(Clone, Copy)]
 pub struct Context {
-    pub forms: [Form; 31],
+    pub forms: [Form; FORMS],
     pub count: usize,
     pub parameters: usize,
     pub made: usize,
@@ -34,7 +34,7 @@ impl Context {
         ensures { (result.count ≡ 0) × (result.parameters ≡ parameters) × (result.made ≡ 0) }
     {
         Context {
-            forms: [[0; 10]; 31],
+            forms: [[0; 10]; FORMS],
             count: 0,
             parameters,
             made: 0,

@@ -10,7 +10,7 @@ ghost use Rattle.solver.specs.Ties.{rest};
 use crate::context::Context;
 use base::form::{CONSTANT, FIRST_NEW, Form};
 use std::array;
-use tableau::table::{Row, Table};
+use tableau::table::{ROWS, Row, Table};
 
 /// A row of zeros.
 pub const BLANK: Row = Row {
@@ -41,7 +41,7 @@ pub fn unit_table(unknowns: usize) -> Table
     ensures ready { Ready result }
     ensures counts { (result.count ≡ unknowns) × (result.unknowns ≡ unknowns) }
 {
-    let mut rows = [BLANK; 64];
+    let mut rows = [BLANK; ROWS];
     for (h, row) in rows[..unknowns].iter_mut().enumerate() {
         *row = unit(h);
     }

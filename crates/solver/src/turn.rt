@@ -1,4 +1,4 @@
-//! The two moves on a table: a pivot, and a row added and pivoted on.
+//! The moves on a table: a pivot, a row added and pivoted on, the cut of a constant.
 ghost use Rattle.std.specs.Prelude.{◌≡◌, ℕ, ◌+◌, ◌<◌, ◌≤◌, true, List, ℤ, None, IfOk, OnOk, slice_index_or};
 ghost use Rattle.tableau.specs.Cuts.{cut_row, is_constant, numbers};
 ghost use Rattle.tableau.specs.Rows.{Sound};

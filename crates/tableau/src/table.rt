@@ -11,7 +11,7 @@ pub const ROWS: usize = 64;
 /// A row says that `div` times its value is `coefs` times the basic unknowns, plus `form`.
 #[derive(Clone, Copy)]
 pub struct Row {
-    pub coefs: [i64; 9],
+    pub coefs: [i64; COLUMNS],
     pub form: Form,
     pub div: i64,
 }
@@ -19,7 +19,7 @@ pub struct Row {
 /// The rows in use are the first `count`; the first `unknowns` of them stand for the unknowns.
 #[derive(Clone, Copy)]
 pub struct Table {
-    pub rows: [Row; 64],
+    pub rows: [Row; ROWS],
     pub count: usize,
     pub unknowns: usize,
 }
