@@ -138,6 +138,7 @@ fn read_table<S: Source>(source: &S, c: Counts) -> Result<Table, Refusal>
     ensures counts { IfOk result (λ t. (t.count ≡ c.n + c.m) × (t.unknowns ≡ c.n)) }
 {
     let mut table = unit_table(c.n);
+    // a source has no rows to go over: it is asked by their places
     for i in 0..c.m {
         push_row(&mut table, read_row(source, c, i)?);
     }
