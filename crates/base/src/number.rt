@@ -75,6 +75,7 @@ pub fn in_range(xs: &[i64]) -> bool
     xs.iter().all(|x| is_small(*x))
 }
 
+// `reduce`, `divide` and `negate` differ in what they compute: the contract of one loop over a closure would be longer than all three.
 /// Each number modulo the divisor, in place.
 pub fn reduce(by: Divisor, xs: &mut [i64])
     ensures { xs.new ≡ map (mod_by by.value) xs.old }

@@ -70,6 +70,7 @@ pub enum Refusal {
 }
 
 impl Refusal {
+    // the numbers are known to users: a case that carries values has no other place for its number
     /// The number by which this refusal is known.
     pub fn number(&self) -> u8
         ensures { result ≡ (report_of self.now).number }

@@ -37,6 +37,7 @@ impl Body<'_> {
         Ok(())
     }
 
+    // two loops of three lines: one over a closure would have to speak of all of the closure's steps
     /// Adds the context rows, which stand last.
     fn confine_rows(&self, source: &mut RowSource) -> Result<(), Refusal>
         ensures answer { arrived (meaning_of source.new) result ≡ confine_all (context_rows_in (sizes_of self.now.counts) self.now.numbers.now) (meaning_of source.old) }

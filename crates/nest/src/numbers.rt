@@ -17,6 +17,7 @@ fn is_small(x: i64) -> bool
     x.unsigned_abs() <= MAX_COEFFICIENT
 }
 
+// One chain, as `in_range` of the base: with the limit as a parameter a call would be no shorter.
 /// Whether it may have these numbers.
 fn all_small(numbers: &[i64]) -> bool
     ensures value { result ≡ all_small numbers.now }

@@ -41,6 +41,7 @@ pub fn new_of(bytes: &[u8; 44]) -> (i32, NodeForm)
     (word_of(divisor), form_of(form))
 }
 
+// Three lines each: a filler over a closure and two lengths would be longer than both.
 /// Inner: the six forms of a leaf.
 pub fn forms_of(bytes: &[u8; 240]) -> [NodeForm; 6]
     ensures value { result ≡ forms 6 bytes.now }
@@ -53,6 +54,7 @@ pub fn forms_of(bytes: &[u8; 240]) -> [NodeForm; 6]
     forms
 }
 
+// p and made are two bytes, named at each call: a struct around them would be taken apart at once.
 /// Whether place k of a form may be other than 0.
 fn is_usable(p: u8, made: u8, k: usize) -> bool
     ensures value { result ≡ usable p made k }

@@ -83,6 +83,7 @@ fn has_room(bytes: usize, offset: usize, cost: usize) -> bool
     offset <= bytes && cost <= bytes - offset
 }
 
+// A bool: it is a test for room, and no refusal has a number for it.
 /// Writes the record of a node over the page from an offset on; false, and nothing is written, where the page is
 /// too short for it.
 pub fn write(node: &Node, page: &mut [u8], offset: usize) -> bool

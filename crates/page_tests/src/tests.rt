@@ -110,7 +110,7 @@ fn each_refusal_carries_its_offset(rt: HostRuntime) {
     );
 }
 
-// ---- a plain check
+// ---- a plain check: kinds are the bytes of the format here, and places are counted, since it is to know nothing of the reader
 
 /// Zero where the page has ended.
 fn byte(page: &[u8], at: usize) -> u8 {

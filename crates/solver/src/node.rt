@@ -98,6 +98,7 @@ fn split(
     node(&mut second, fuel, work, count)
 }
 
+// A bool, as of `join`: the caller knows the step.
 /// Makes the state one of a branch: where the form is at least 0, with one split less below it.
 fn branch(state: &mut State, form: &Form) -> bool
     requires ready { StateReady state.old }

@@ -15,6 +15,7 @@ pub fn all_fit(t: &Table) -> bool
     t.rows[..t.count].iter().all(fits)
 }
 
+// A bool, not a `Result`: what the table holds is one equation for both answers.
 /// Inner: the pivot at the place (row, column), whose number is above 0. It answers whether all rows
 /// are still in range; if not, the table holds the rows that are out of range, and is of no more use.
 pub fn pivot(t: &mut Table, place: (usize, usize)) -> bool

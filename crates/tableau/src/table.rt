@@ -16,6 +16,7 @@ pub struct Row {
     pub div: i64,
 }
 
+// Plain arrays by value, with their count: the solver uses no heap, and a branch of a split works on a copy.
 /// The rows in use are the first `count`; the first `unknowns` of them stand for the unknowns.
 #[derive(Clone, Copy)]
 pub struct Table {

@@ -12,6 +12,7 @@ use std::ops::ControlFlow;
 /// The largest number of a point.
 const LARGEST: i64 = 1_000_000;
 
+// Not an `Option` of the point: that goes to a place of the caller's, which also holds zeros where there is none.
 /// What find says where it is not refused: the point stands in the place of six, or there is none.
 #[derive(Clone, Copy, PartialEq, Eq, Debug)]
 pub enum Found {

@@ -5,6 +5,7 @@ use super::acts::copy_front;
 use crate::limits::check_row;
 use base::refusal::Refusal;
 
+// Arrays, not a `Vec`: making a source cannot fail for want of memory.
 /// At most `MOST` rows, each of the same width. Of `numbers` the first `count` rows count, and of each the first
 /// `width` numbers.
 #[derive(Clone, Copy)]
