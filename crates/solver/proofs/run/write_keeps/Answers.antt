@@ -3,11 +3,8 @@ use Rattle.std.proofs.lemmas.List.{length-map}
 use Rattle.tree.specs.declared.node.Node.TheVariants.{Keep}
 use Rattle.solver.specs.Bounds.{in_force}
 use Rattle.std.proofs.lemmas.Result.{err_from_is_err_and}
-use Rattle.solver.proofs.Writing.{kept-all, kept_more, kept-none, kept-refused, kept-wrote}
+use Rattle.solver.proofs.Writing.{kept-all, kept_more, kept-refused, kept-wrote}
 use Rattle.solver.proofs.run.write_keeps.Goals as goal
-
-pub loop-form-init : goal.loop-form-init
-loop-form-init c = kept-none c.args.ctx.now c.args.work.now c.args.start
 
 pub returns-in_err-count : goal.returns-in_err-count
 returns-in_err-count c =

@@ -138,12 +138,6 @@ returns-in-Unsure c =
       stepped = record { more = omega (arith, i.2.more, s.stepped.more); within = s.stepped.within };
     }
 
-pub cut_row-requires : goal.cut_row-requires
-cut_row-requires c =
-    let i = c.loop-found.invariant in
-    let s = c.in_ok-found.ensures in
-    record { ready = state-scanned c.loop-found.state c.scan_rows.new.ctx i.0 s.kept; row = search rules }
-
 pub returns-in_err-count-in-Some-first_fraction : goal.returns-in_err-count-in-Some-first_fraction
 returns-in_err-count-in-Some-first_fraction c =
     let x = c.loop-found.state in

@@ -1,32 +1,16 @@
-use Rattle.std.proofs.Common.{◌≡◌, ℕ, ◌+◌, ◌^◌, ◌<◌, get_or, drop, Ok, Err, sym, refl, ap, ◌∙◌, subst, arith}
+use Rattle.std.proofs.Common.{◌≡◌, ℕ, ◌+◌, ◌<◌, get_or, drop, Ok, Err, sym, refl, ap, ◌∙◌, subst, arith}
 use Rattle.std.proofs.lemmas.Result.{err_from_is_err_and, IfOk-from_err}
 use Rattle.std.proofs.lemmas.List.{at_drop_all, get_or-take, length-take}
-use Rattle.base.specs.Numbers.{AllWithin}
 use Rattle.tableau.specs.Tables.{in_use, no_row}
 use Rattle.solver.specs.declared.sign.Scan.{Scan as Found}
 use Rattle.solver.specs.Bounds.{SameContext, ScanBelow, Stepped}
 use Rattle.solver.specs.Rules.{Work, scan, sign_in}
 use Rattle.solver.specs.Ties.{KnownAs, limits, scanned_at}
-use Rattle.solver.proofs.Keeping.{same_refl, same-trans, stepped-refl, stepped-trans}
+use Rattle.solver.proofs.Keeping.{same-trans, stepped-trans}
 use Rattle.solver.proofs.Signing.{NotYet, below-unsure, below-up, known_same, not-yet-unsure, remembered, remembers-end, scan-broken, scan-end, scan-negative, scan-nonnegative, scan-unknown}
 use Rattle.solver.proofs.Turning.{used-more}
 use Rattle.solver.proofs.sign.scan_rows.Goals as goal
 use Rattle.solver.proofs.sign.scan_rows.Goals.{in-NonNegative, in-Unknown}
-
-pub loop-h-init : goal.loop-h-init
-loop-h-init c = (same_refl c.args.ctx.now, tt, stepped-refl c.args.fuel c.args.start c.requires.within, tt, λ s n k. refl, refl)
-
-pub sign_of-requires : goal.sign_of-requires
-sign_of-requires c =
-    let i = c.loop-h.invariant in
-    let t = c.args.t.now in
-    let lt : c.loop-h.h < t.count = omega (arith, length-take t.count t.rows) in
-    record {
-      small = subst (λ r. AllWithin (2 ^ 30) r.form) (sym (get_or-take t.count t.rows c.loop-h.h no_row lt)) (c.requires.table.sound c.loop-h.h lt).form_small;
-      room = omega (arith, i.0.count, c.requires.room);
-      within = i.2.within;
-      fuel = c.requires.fuel;
-    }
 
 pub returns-in_err-s : goal.returns-in_err-s
 returns-in_err-s c =

@@ -1,4 +1,4 @@
-use Rattle.std.proofs.Common.{cond, Ok, Err, sym, refl, ap, ◌∙◌, arith}
+use Rattle.std.proofs.Common.{cond, Ok, Err, sym, refl, ap, ◌∙◌}
 use Rattle.std.proofs.lemmas.Result.{err_from_is_err_and, IfOk-from_err}
 use Rattle.solver.specs.declared.sign.Sign.TheVariants.{Negative, Unknown}
 use Rattle.solver.specs.Rules.{test_with}
@@ -46,15 +46,6 @@ returns-then-not-below c =
       kept = c.test_with.ensures.kept;
       nodes = c.in_ok-below.ensures.nodes;
       stepped = c.in_ok-below.ensures.stepped;
-    }
-
-pub test_with-requires-2 : goal.test_with-requires-2
-test_with-requires-2 c =
-    let k = c.test_with.ensures.kept in
-    record {
-      room = omega (arith, k.count, c.requires.room);
-      within = c.in_ok-below.ensures.stepped.within;
-      fuel = c.requires.fuel;
     }
 
 pub returns-in_err-above : goal.returns-in_err-above

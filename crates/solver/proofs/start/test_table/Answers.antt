@@ -1,12 +1,7 @@
 use Rattle.std.proofs.Common.{◌≡◌, ◌+◌, ◌<◌, [], ◌∷◌, ◌++◌, map, length, take, sym, ap, ◌∙◌, arith, rules}
-use Rattle.std.proofs.lemmas.List.{append_assoc, append-nil, get_or-take, length-take, map_more}
+use Rattle.std.proofs.lemmas.List.{append_assoc, get_or-take, length-take, map_more}
 use Rattle.solver.specs.Tests.{test_row, unit_rows}
 use Rattle.solver.proofs.start.test_table.Goals as goal
-
-pub loop-form-init : goal.loop-form-init
-loop-form-init c =
-    let u = c.unit_table-t.ensures in
-    (u.ready, search rules, search rules, u.rows ∙ sym (append-nil _))
 
 pub loop-form-preserved : goal.loop-form-preserved
 loop-form-preserved c =
