@@ -1,6 +1,6 @@
 -- A table kept in a larger one: its first m rows, and of each the first w numbers.
 use Rattle.std.proofs.Common.{◌≡◌, ℕ, zero, suc, ◌+◌, ◌<◌, ◌≤◌, List, [], ◌∷◌, ◌++◌, map, length, take, set, ℤ, pos, refl, ap, ◌∙◌, arith}
-use Rattle.std.proofs.lemmas.List.{get_or-take, get_or_past, length-map, length-take, length-take-le, map_push, take_more_set}
+use Rattle.std.proofs.lemmas.List.{get_or-take, get_or_past, length-take, map_push, take_more_set}
 use Rattle.source.specs.Systems.{entry}
 
 -- one row more
