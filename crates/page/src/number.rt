@@ -41,6 +41,7 @@ pub fn new_of(bytes: &[u8; 44]) -> (i32, NodeForm)
     (word_of(divisor), form_of(form))
 }
 
+// no filler for both arrays: with its closure and two lengths it would be longer than the two loops
 /// Inner: the six forms of a leaf.
 pub fn forms_of(bytes: &[u8; 240]) -> [NodeForm; 6]
     ensures value { result ≡ forms 6 bytes.now }

@@ -12,6 +12,7 @@ use std::ops::ControlFlow;
 /// The largest number of a point.
 const LARGEST: i64 = 1_000_000;
 
+// no Option of the point: the point goes to the place that the caller lends
 /// What find says where it is not refused: the point stands in the place of six, or there is none.
 #[derive(Clone, Copy, PartialEq, Eq, Debug)]
 pub enum Found {
