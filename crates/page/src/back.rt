@@ -59,6 +59,7 @@ pub fn node_at(page: &[u8], i: usize) -> Node
     ensures value { result ≡ slice_index_or (nodes_in (length page.now) page.now) i Blank }
     ensures law { ReadsBack page.now i result }
 {
+    // no iterator of records: it would be a type and a contract for this one caller
     let mut rest = page;
     for _ in 0..i {
         let Ok((_, after)) = read(rest) else {

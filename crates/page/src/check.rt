@@ -18,6 +18,7 @@ pub struct Fault<'a> {
     pub at: &'a [u8],
 }
 
+// a pair, as each caller takes it apart at once
 /// What comes after the nodes that were read, and how many they are.
 type Counted<'a> = Result<(&'a [u8], usize), Fault<'a>>;
 
