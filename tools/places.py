@@ -30,36 +30,52 @@ def lines_with(*patterns):
 
 
 def functions():
-    """Each function: its path, line, name, parameters, contract and body."""
+    """Each function: its path, line, name, parameters, its whole text and its body."""
+    start = r"^( *)(?:pub(?:\([a-z]+\))? )?fn (\w+)"
     for path, lines in sources():
         text = "\n".join(lines)
-        for found in re.finditer(r"^( *)(?:pub(?:\([a-z]+\))? )?fn (\w+)", text, re.M):
-            indent = found.group(1)
-            rest = text[found.start():]
-            end = re.search(r"^%s(\}|.*;$)" % indent, rest, re.M)
-            opened = re.search(r"\{\n|^%s\{" % indent, rest, re.M)
-            whole = rest[: end.end()] if end else rest
-            head = whole[whole.index("("):]
-            depth = 0
-            for at, c in enumerate(head):
-                depth += (c == "(") - (c == ")")
-                if depth == 0:
-                    break
-            parameters = [p.strip() for p in re.split(r",(?![^<(\[]*[>)\]])", head[1:at]) if p.strip()]
-            body = re.split(r"^%s\{$" % indent, whole, 1, re.M) if re.search(r"^%s\{$" % indent, whole, re.M) else whole.split("{\n", 1)
-            yield path, text[: found.start()].count("\n") + 1, found.group(2), parameters, whole, body[1] if len(body) > 1 else ""
+        heads = list(re.finditer(start, text, re.M))
+        for found, following in zip(heads, heads[1:] + [None]):
+            indent, name = found.groups()
+            whole = text[found.start() : following.start() if following else len(text)]
+            end = re.search(r"^%s\}" % indent, whole, re.M)
+            whole = whole[: end.end()] if end else whole
+            opened = re.search(r"^%s\{$|\{$" % indent, whole, re.M)
+            yield path, text[: found.start()].count("\n") + 1, name, parameters_of(whole), whole, whole[opened.end() :] if opened else ""
+
+
+def parameters_of(whole):
+    """The parameters between the outermost parentheses."""
+    rest = whole[whole.index("(") :]
+    depth = 0
+    for at, c in enumerate(rest):
+        depth += (c == "(") - (c == ")")
+        if depth == 0:
+            break
+    return [p.strip() for p in re.split(r",(?![^<(\[]*[>)\]])", rest[1:at]) if p.strip()]
+
+
+FLAGS = {
+    "a flag with a value": r"\(bool, ",
+    "a result in a result": r"\bResult<Result<",
+    "numbers for kinds": r"\bkind: u8|^\s*\d( \| \d)* =>|\[at\] = \d|put_\w+\(page, at, \d|kind (==|!=) \d",
+    "numbers for refusals": r"\(u8, usize\)|fn fault\(|\bcode (==|!=)|\bcode, 5\d|fn (number|\w+_stands?|\w+_correspond|\w+_fits|\w+_posts)\(.*\) -> u8",
+}
 
 
 def point1():
-    """Enums with a case that Option or Result has, pairs with a flag, acts that answer a flag, numbers for kinds and refusals."""
+    """Enums with a case that Option or Result has (but for the kinds of nodes), and in each function: flags, acts that answer a flag, numbers for kinds or refusals."""
     for path, lines in sources():
-        for found in re.finditer(r"enum (\w+)[^{]*\{([^}]|\{[^}]*\})*?\b(None|Some|Ok|Err)\b", "\n".join(lines)):
-            yield f"{path}: enum {found.group(1)}"
-    yield from lines_with(r"\(bool, ", r"\bResult<Result<", r"\bkind: u8", r"-> u8\b", r"\(u8, usize\)",
-                          r"^\s*\d( \| \d)* =>", r"\[at\] = \d", r"put_\w+\(page, at, \d", r"kind (==|!=) \d", r"\bcode (!=|==)")
+        for found in re.finditer(r"enum (\w+)[^{]*\{((?:[^}]|\{[^}]*\})*?)\n\}", "\n".join(lines)):
+            if re.search(r"^\s*(None|Some|Ok|Err)\b", found.group(2), re.M) and "Leaf" not in found.group(2):
+                yield f"{path}: enum {found.group(1)}"
     for path, line, name, parameters, whole, body in functions():
+        text = "\n".join(code(part) for part in whole.split("\n"))
+        for what, pattern in FLAGS.items():
+            if re.search(pattern, text, re.M):
+                yield f"{path}:{line} {name}: {what}"
         if re.search(r"-> bool\b", whole.split("{")[0]) and any("&mut" in p for p in parameters):
-            yield f"{path}:{line}: {name} changes something and answers bool"
+            yield f"{path}:{line} {name}: changes something and answers a flag"
 
 
 def shape(body):

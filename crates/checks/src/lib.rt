@@ -9,5 +9,3 @@ mod page_stores;
 mod questions;
 #[cfg(test)]
 mod stores;
-#[cfg(test)]
-mod worked;

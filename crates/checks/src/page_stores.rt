@@ -1,11 +1,11 @@
 //! Page stores by example.
-use crate::worked::WORKED;
 use base::refusal::Refusal;
 use page_store::page_store::PageStore;
 use std::test::Fail;
 use store::install::install;
 use store::store::Store;
 use tree::node::Node;
+use worked_tree::WORKED;
 
 #[test]
 fn the_worked_tree_fits_571_bytes(rt: HostRuntime) -> Result<(), Fail> {

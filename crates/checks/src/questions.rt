@@ -1,19 +1,9 @@
 //! Questions to lists of nodes by example.
-use crate::worked::WORKED;
 use base::refusal::Refusal;
 use std::process::Abort;
-use tree::node::{Node, NodeForm};
+use tree::node::Node;
 use tree::walk::{Found, find};
-
-/// x times the first parameter, y times the first new one, and a constant.
-fn form(x: i32, y: i32, constant: i32) -> NodeForm {
-    [x, 0, 0, 0, y, 0, 0, 0, 0, constant]
-}
-
-fn leaf(first: NodeForm) -> Node {
-    let zero = form(0, 0, 0);
-    Node::Leaf([first, zero, zero, zero, zero, zero])
-}
+use worked_tree::{WORKED, form, leaf};
 
 /// Asks the list at k, and compares what it says, and the first and last number of the place.
 fn asks(rt: &impl Abort, nodes: &[Node], k: i64, want: Result<Found, Refusal>, first: i64) {

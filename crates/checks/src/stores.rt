@@ -1,11 +1,11 @@
 //! Stores by example.
-use crate::worked::WORKED;
 use base::refusal::Refusal;
 use std::test::Fail;
 use store::install::install;
 use store::node_store::NodeStore;
 use store::store::Store;
 use tree::node::Node;
+use worked_tree::WORKED;
 
 /// A store of four places.
 fn four_places(rt: &HostRuntime) -> Result<NodeStore, Fail> {

@@ -9,23 +9,19 @@ use nest::nest::Nest;
 /// The points of a nest's system and the postings of its loops correspond one to one, the earlier point to the later posting.
 pub fn postings_correspond(nest: &Nest)
     ensures law { PostingsCorrespond (nest_of nest.now) }
-{
-}
+{}
 
 /// Whatever tree a solve of a nest answers gives the latest posting at every parameter point of its context.
 pub fn latest_posting_stands(nest: &Nest)
     ensures law { LatestPosting (nest_of nest.now) }
-{
-}
+{}
 
 /// No solve of a nest is refused for its counts or its numbers.
 pub fn nest_fits(nest: &Nest)
     ensures law { NestFits (nest_of nest.now) }
-{
-}
+{}
 
 /// Given a point of a nest's system, back answers the posting that it stands for.
 pub fn back_posts(nest: &Nest)
     ensures law { BackPosts (nest_of nest.now) }
-{
-}
+{}

@@ -7,30 +7,7 @@ use std::alloc::{AllocError, Global};
 use std::array;
 use std::process::Abort;
 use tree::node::{Node, NodeForm};
-
-/// x times the first parameter, y times the first new one, and a constant.
-fn form(x: i32, y: i32, constant: i32) -> NodeForm {
-    [x, 0, 0, 0, y, 0, 0, 0, 0, constant]
-}
-
-fn leaf(first: NodeForm) -> Node {
-    let zero = form(0, 0, 0);
-    Node::Leaf([first, zero, zero, zero, zero, zero])
-}
-
-/// The tree of 2 × unknown ≥ k.
-fn half() -> [Node; 5] {
-    [
-        Node::Head { n: 1, p: 1 },
-        Node::Split(form(-1, 0, 0)),
-        leaf(form(0, 0, 0)),
-        Node::New {
-            d: 2,
-            form: form(1, 0, 0),
-        },
-        leaf(form(1, -1, 0)),
-    ]
-}
+use worked_tree::{WORKED, form};
 
 /// The nodes written one after the other from the start of the page; how many bytes they took.
 fn put_all(nodes: &[Node], page: &mut [u8]) -> usize {
@@ -46,7 +23,7 @@ fn put_all(nodes: &[Node], page: &mut [u8]) -> usize {
 
 fn half_page() -> [u8; 571] {
     let mut page = [0; 571];
-    let _ = put_all(&half(), &mut page);
+    let _ = put_all(&WORKED, &mut page);
     page
 }
 
@@ -64,9 +41,9 @@ fn answer(nodes: &[Node]) -> Result<usize, Refusal> {
 #[test]
 fn the_worked_tree_takes_571_bytes_and_reads_back(rt: HostRuntime) {
     let mut page = [0; 571];
-    assert_eq!(rt; put_all(&half(), &mut page), 571);
+    assert_eq!(rt; put_all(&WORKED, &mut page), 571);
     assert_eq!(rt; check(&page), Ok(5));
-    for (i, node) in half().iter().enumerate() {
+    for (i, node) in WORKED.iter().enumerate() {
         assert_eq!(rt; node_at(&page, i), *node);
     }
     assert_eq!(rt; node_at(&page, 5), Node::None);

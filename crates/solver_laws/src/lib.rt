@@ -10,35 +10,29 @@ ghost use Rattle.solver_laws.specs.Limits.{TreeLimits};
 /// Whatever tree a solve answers gives the least point at every parameter point of its context.
 pub fn least_point_stands()
     ensures { LeastPoint }
-{
-}
+{}
 
 /// A solve is refused by 13 exactly where no parameter point meets the context; tests and signs are right.
 pub fn context_laws_stand()
     ensures { ContextLaws }
-{
-}
+{}
 
 /// More fuel never changes an answer, and less only runs out.
 pub fn fuel_law_stands()
     ensures { FuelLaw }
-{
-}
+{}
 
 /// Whatever tree a solve answers is within the limits of a tree.
 pub fn limits_stand()
     ensures { TreeLimits }
-{
-}
+{}
 
 /// Steps stay within the fuel, and nodes within the work table.
 pub fn solve_laws_stand()
     ensures { SolveLaws }
-{
-}
+{}
 
 /// The nodes that a solve counts are those that its tree is written in.
 pub fn node_count_stands()
     ensures { NodesCounted }
-{
-}
+{}

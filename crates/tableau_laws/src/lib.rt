@@ -6,5 +6,4 @@ ghost use Rattle.tableau_laws.specs.Laws.{TableLaws};
 /// The laws hold.
 pub fn table_laws_stand()
     ensures { TableLaws }
-{
-}
+{}
