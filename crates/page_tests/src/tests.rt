@@ -3,7 +3,7 @@ use base::refusal::Refusal;
 use page::back::node_at;
 use page::check::check;
 use page::write::{cost, write};
-use std::alloc::{AllocError, Global};
+use std::alloc::{AllocError, AllocFailed, Global};
 use std::array;
 use std::process::Abort;
 use tree::node::{Node, NodeForm};
@@ -170,6 +170,24 @@ fn look(page: &[u8], at: usize, sizes: Sizes, left: u8, made: u8) -> Result<(), 
     }
 }
 
+/// Why the plain check ends early.
+enum Stop {
+    Refused(Refusal),
+    NoMemory(AllocError),
+}
+
+impl From<Refusal> for Stop {
+    fn from(refusal: Refusal) -> Stop {
+        Stop::Refused(refusal)
+    }
+}
+
+impl<T: Drop> From<AllocFailed<T>> for Stop {
+    fn from(failed: AllocFailed<T>) -> Stop {
+        Stop::NoMemory(AllocError::from(failed))
+    }
+}
+
 /// What was read of a page: the head's sizes, where the next record begins, and how many there were.
 #[derive(Clone, Copy)]
 struct Top {
@@ -216,7 +234,7 @@ fn plain_top(page: &[u8]) -> Result<Top, Refusal> {
 
 /// The trees below, by a list of those that are still to come, the next one last: how many splits may stand in
 /// each, and how many new parameters stand above it.
-fn plain_trees(heap: Global, page: &[u8], top: &Top) -> Result<Result<usize, Refusal>, AllocError> {
+fn plain_trees(heap: Global, page: &[u8], top: &Top) -> Result<usize, Stop> {
     let mut at = top.at;
     let mut records = top.records;
     let mut due: Vec<(u8, u8)> = Vec::new(heap);
@@ -225,9 +243,7 @@ fn plain_trees(heap: Global, page: &[u8], top: &Top) -> Result<Result<usize, Ref
         let Some((left, made)) = due.pop() else {
             break;
         };
-        if let Err(refusal) = look(page, at, top.sizes, left, made) {
-            return Ok(Err(refusal));
-        }
+        look(page, at, top.sizes, left, made)?;
         records = records.wrapping_add(1);
         match byte(page, at) {
             3 => {
@@ -244,30 +260,32 @@ fn plain_trees(heap: Global, page: &[u8], top: &Top) -> Result<Result<usize, Ref
         }
     }
     if at < page.len() {
-        Ok(Err(Refusal::PageLength { offset: at }))
+        Err(Stop::Refused(Refusal::PageLength { offset: at }))
     } else {
-        Ok(Ok(records))
+        Ok(records)
     }
 }
 
-/// What `check` is to answer, as long as there is memory for the list.
-fn plain(heap: Global, page: &[u8]) -> Result<Result<usize, Refusal>, AllocError> {
-    match plain_top(page) {
-        Ok(top) => plain_trees(heap, page, &top),
-        Err(refusal) => Ok(Err(refusal)),
+/// Compares what `check` answers with the plain check.
+fn alike(rt: &impl Abort, heap: Global, page: &[u8]) -> Result<(), AllocError> {
+    let trees = |top: Top| plain_trees(heap, page, &top);
+    match plain_top(page).map_err(Stop::from).and_then(trees) {
+        Ok(records) => assert_eq!(rt; check(page), Ok(records)),
+        Err(Stop::Refused(refusal)) => assert_eq!(rt; check(page), Err(refusal)),
+        Err(Stop::NoMemory(error)) => return Err(error),
     }
+    Ok(())
 }
 
 #[test]
 fn every_truncation_is_refused_alike(rt: HostRuntime) -> Result<(), AllocError> {
     let page = half_page();
     for end in 0..571 {
-        let answer = check(&page[..end]);
-        assert!(rt; matches!(answer, Err(Refusal::PageLength { offset: _ })));
-        assert_eq!(rt; answer, plain(rt.alloc(), &page[..end])?);
+        let part = &page[..end];
+        assert!(rt; matches!(check(part), Err(Refusal::PageLength { offset: _ })));
+        alike(&rt, rt.alloc(), part)?;
     }
-    assert_eq!(rt; check(&page), plain(rt.alloc(), &page)?);
-    Ok(())
+    alike(&rt, rt.alloc(), &page)
 }
 
 /// Whether each other value of a byte is answered alike.
@@ -277,7 +295,7 @@ fn changes(rt: &impl Abort, heap: Global, page: &[u8; 571], i: usize) -> Result<
         if let Some(b) = other.get_mut(i) {
             *b = b.wrapping_add(d);
         }
-        assert_eq!(rt; check(&other), plain(heap, &other)?);
+        alike(rt, heap, &other)?;
     }
     Ok(())
 }
