@@ -5,6 +5,7 @@ ghost use Rattle.base.specs.Forms.{opposite, value_at};
 
 use crate::number::negate;
 
+// No bound in the type: a row that a pivot has left out of range has such a form too.
 /// Coefficients of parameters 1 to 4, of new parameters 1 to 5, then a constant; unused ones are 0.
 pub type Form = [i64; 10];
 

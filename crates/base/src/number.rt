@@ -7,6 +7,7 @@ use crate::divisor::Divisor;
 /// The largest size of a number in a table or a context: 2^30.
 pub const RANGE: u64 = 1 << 30;
 
+// A divisor and a number each: functions, in the order in which their definitions map over a list.
 /// a modulo the divisor, from 0 to one less than it, for negative a too.
 pub fn modulo(by: Divisor, a: i64) -> i64
     ensures { result ≡ mod_by by.value a }

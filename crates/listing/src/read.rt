@@ -59,6 +59,7 @@ fn read_numbers(counts: Counts, text: &[u8], numbers: &mut [i64]) -> Result<List
 fn read_body(counts: Counts, text: &[u8]) -> Result<Listing, Refusal>
     ensures answer { understood result ≡ body_answer (sizes_of counts) text.now }
 {
+    // no heap: as many places as a listing can need, lent at the length that this one has
     let mut numbers = [0; NUMBERS];
     let total = total(counts);
     read_numbers(counts, text, &mut numbers[0..total])

@@ -280,6 +280,7 @@ fn alike(rt: &impl Abort, heap: Global, page: &[u8]) -> Result<(), AllocError> {
 #[test]
 fn every_truncation_is_refused_alike(rt: HostRuntime) -> Result<(), AllocError> {
     let page = half_page();
+    // ranges of cases, here and below: the places and bytes that are to be tried
     for end in 0..571 {
         let part = &page[..end];
         assert!(rt; matches!(check(part), Err(Refusal::PageLength { offset: _ })));

@@ -9,6 +9,8 @@ use base::number::in_range;
 /// that a test adds.
 pub const FORMS: usize = 31;
 
+// Plain arrays by value, with their count: the solver uses no heap, and a branch works on a copy. Room for one row more is
+// there at some moments only: clauses ask for it.
 /// Each of the first `count` forms is at least 0; their numbers are in range. The first `parameters`
 /// places of a form are in use, and `made` of the places of new parameters.
 #[derive(Clone, Copy)]

@@ -78,6 +78,7 @@ fn make_parameter(
     let count = write(
         work,
         Node::New {
+            // `as`: a divisor is at most 2^30
             d: by.div as i32,
             form: narrow(&by.form),
         },

@@ -24,6 +24,7 @@ pub trait Source {
     fn context_rows(&self) -> usize
         ensures value { result ≡ length (meaning self.now).context };
 
+    // two numbers as the caller counts them: a type for the pair would be taken apart at once
     /// The number of a row at a column, both from 0; 0 where there is none.
     fn number(&self, row: usize, column: usize) -> i64
         ensures value { result ≡ number (meaning self.now) row column };
