@@ -52,11 +52,7 @@ impl fmt::Display for Points<'_> {
 fn of_unknowns(forms: &[NodeForm; 6], unknowns: u8) -> &[NodeForm]
     ensures value { result.now ≡ take unknowns forms.now }
 {
-    if unknowns < 6 {
-        &forms[..usize::from(unknowns)]
-    } else {
-        forms
-    }
+    forms.get(..usize::from(unknowns)).unwrap_or(forms)
 }
 
 /// A node of a tree with so many unknowns.

@@ -9,10 +9,7 @@ use tree::node::Node;
 
 /// By which refusal a listing is refused.
 fn refusal(text: &[u8]) -> Option<Refusal> {
-    match read(text) {
-        Ok(_) => None,
-        Err(refusal) => Some(refusal),
-    }
+    read(text).err()
 }
 
 #[test]

@@ -14,6 +14,7 @@ pub mod back;
 #[derive(Clone, Copy)]
 pub struct Nest {
     kept: RowSource,
+    // an array, and no rows that are given one by one: a bound is set at its loop, in any order and again
     bounds: [[i64; MAX_CONTEXT_ROW_LENGTH]; MAX_UNKNOWNS],
     ghost each_bounded: { length (loops_of kept bounds).bounds ≡ (loops_of kept bounds).n },
     ghost bounds_long: { AllLong ((loops_of kept bounds).p + 1) (loops_of kept bounds).bounds },

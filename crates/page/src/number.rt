@@ -24,6 +24,7 @@ pub fn form_of(bytes: &[u8; 40]) -> NodeForm
     ensures value { result ≡ words 10 bytes.now }
 {
     let (words, _) = bytes.as_chunks::<4>();
+    // a loop: what the closure of `array::from_fn` answered for a signed number was not found again
     let mut form = [0; 10];
     for (k, word) in words.iter().enumerate() {
         form[k] = word_of(word);
@@ -41,7 +42,7 @@ pub fn new_of(bytes: &[u8; 44]) -> (i32, NodeForm)
     (word_of(divisor), form_of(form))
 }
 
-// Three lines each: a filler over a closure and two lengths would be longer than both.
+// Twin of `form_of` but for two lengths: a filler over a closure and both would be longer than the two loops.
 /// Inner: the six forms of a leaf.
 pub fn forms_of(bytes: &[u8; 240]) -> [NodeForm; 6]
     ensures value { result ≡ forms 6 bytes.now }

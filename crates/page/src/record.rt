@@ -54,26 +54,11 @@ pub fn read(rest: &[u8]) -> Result<(Record, &[u8]), Flaw>
     match rest {
         [] => Err(Flaw::Length),
         [kind, bytes @ ..] => match Kind::try_from(*kind)? {
-            Kind::Head => {
-                let (body, after) = part(bytes)?;
-                Ok((Record::Head(body), after))
-            }
-            Kind::Keep => {
-                let (body, after) = part(bytes)?;
-                Ok((Record::Keep(body), after))
-            }
-            Kind::Split => {
-                let (body, after) = part(bytes)?;
-                Ok((Record::Split(body), after))
-            }
-            Kind::New => {
-                let (body, after) = part(bytes)?;
-                Ok((Record::New(body), after))
-            }
-            Kind::Leaf => {
-                let (body, after) = part(bytes)?;
-                Ok((Record::Leaf(body), after))
-            }
+            Kind::Head => part(bytes).map(|(body, after)| (Record::Head(body), after)),
+            Kind::Keep => part(bytes).map(|(body, after)| (Record::Keep(body), after)),
+            Kind::Split => part(bytes).map(|(body, after)| (Record::Split(body), after)),
+            Kind::New => part(bytes).map(|(body, after)| (Record::New(body), after)),
+            Kind::Leaf => part(bytes).map(|(body, after)| (Record::Leaf(body), after)),
             Kind::None => Ok((Record::None, bytes)),
         },
     }

@@ -8,8 +8,11 @@ use store::gate::{Draft, Gate};
 
 pub mod acts;
 
-/// The mark of a page store's gate and drafts. It has no values.
-pub enum Pages {}
+/// The mark of a page store's gate and drafts: only this module can make one.
+#[derive(Drop)]
+pub struct Pages {
+    mark: (),
+}
 
 /// Lists the nodes whose records stand first in the page; the page's length is the capacity. Page
 /// and index are handed in, so that neither making the store nor a put can want for memory.

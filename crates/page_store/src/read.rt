@@ -10,6 +10,7 @@ use page::write::record_length;
 use tree::kind::Kind;
 use tree::node::Node;
 
+// Three lines as at the end of `page::back::node_at`: its contract speaks of one record, and of no page.
 /// Inner: the node whose record stands first.
 pub fn first_node(bytes: &[u8]) -> Node
     ensures value { (x : TheNode) (rest : List ℕ) → holdable x ≡ true → bytes.now ≡ record_of x ++ rest → result ≡ x }

@@ -170,6 +170,7 @@ fn look(page: &[u8], at: usize, sizes: Sizes, left: u8, made: u8) -> Result<(), 
     }
 }
 
+// An error type of these tests' own.
 /// Why the plain check ends early.
 enum Stop {
     Refused(Refusal),
@@ -239,6 +240,7 @@ fn plain_trees(heap: Global, page: &[u8], top: &Top) -> Result<usize, Stop> {
     let mut records = top.records;
     let mut due: Vec<(u8, u8)> = Vec::new(heap);
     due.push((12, 0))?;
+    // a bound on the records, so that it ends on any page
     for _ in 0..1000 {
         let Some((left, made)) = due.pop() else {
             break;

@@ -19,6 +19,7 @@ const FUEL: i64 = 100_000;
 /// The most numbers of a line: for six counters, four parameters and the constant.
 const MOST: usize = 11;
 
+// An error type of this program's own: another program stops for other things.
 /// Why the lines are not taken to their end.
 enum Stop {
     /// What a line says is refused.
@@ -49,6 +50,7 @@ impl<T: Drop> From<AllocFailed<T>> for Stop {
 #[derive(Clone, Copy)]
 struct Reading {
     nest: Nest,
+    // bounds, counted: no buffer has this length
     bounded: usize,
 }
 
@@ -67,18 +69,14 @@ fn numbers_of(rt: &HostRuntime, line: &[u8]) -> Result<Vec<i64>, Stop> {
     Err(Stop::Refused(Refusal::Listing))
 }
 
-/// A count, which is not below 0.
-fn count(x: i64) -> Result<usize, Refusal> {
-    usize::try_from(x).map_err(|_| Refusal::Counts)
-}
-
 /// A fresh nest from the first line: `loops` and its two counts.
 fn first_line(rt: &HostRuntime, line: &[u8]) -> Result<Reading, Stop> {
     let (word, rest) = first_word(line);
     let numbers = numbers_of(rt, rest)?;
     match (word, numbers.as_slice()) {
         (b"loops", [n, p]) => {
-            let nest = Nest::new(count(*n)?, count(*p)?)?;
+            let count = |x: &i64| usize::try_from(*x).map_err(|_| Refusal::Counts);
+            let nest = Nest::new(count(n)?, count(p)?)?;
             Ok(Reading { nest, bounded: 0 })
         }
         _ => Err(Stop::Refused(Refusal::Listing)),

@@ -63,6 +63,7 @@ impl Context {
     }
 }
 
+// A count that is put back, and no buffer of that length.
 /// While it stands the context may have further rows; then its row count is as it was.
 pub struct Added<'a> {
     pub ctx: &'a mut Context,

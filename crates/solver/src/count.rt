@@ -7,7 +7,8 @@ ghost use Rattle.solver.specs.Ties.{ticked};
 
 use base::refusal::{Met, Place, Refusal};
 
-// The fuel is no part of it: each contract would have to say that the limit is the same before and after.
+// The fuel is no part of it: each contract would have to say that the limit is the same before and after. Nor is it a type with its
+// bound: a step, a barred step and a move answer for any fuel, so it would be taken apart at each call.
 /// The steps made and the nodes written so far.
 #[derive(Clone, Copy)]
 pub struct Count {

@@ -106,6 +106,8 @@ impl<'a> Numbers<'a> {
     }
 }
 
+// The source and its counts stay two arguments: a struct of both would need the trait's bound and its meaning in its fields.
+// `read_row` and `read_form` share their two steps, and differ in what they ask and answer.
 /// Row i of the system.
 fn read_row<S: Source>(source: &S, c: Counts, i: usize) -> Result<Row, Refusal>
     ensures answer { result ≡ row_read c.n c.p i (fitted (c.n + c.p + 1) (slice_index_or (S.meaning source.now).rows i [])) }
@@ -152,6 +154,7 @@ fn read_context<S: Source>(source: &S, c: Counts) -> Result<Context, Refusal>
     ensures counts { IfOk result (λ x. (x.count ≤ c.k) × (x.made ≡ 0)) }
 {
     let mut ctx = Context::open(c.p);
+    // and for its context rows too
     for i in 0..c.k {
         let form = read_form(source, c, i)?;
         // numbers within the limits of a system are in range

@@ -70,7 +70,7 @@ fn read_and_run<S: Source>(source: &S, work: &mut [Node], fuel: i64) -> Result<C
     if fuel < 0 || fuel > FUEL {
         return Err(Refusal::Fuel);
     }
-    // `as`: the test above leaves 0 to FUEL
+    // `as`: the test above leaves 0 to FUEL; `try_from` would be half of it
     run_state(&mut state, fuel as u32, work)
 }
 

@@ -94,6 +94,7 @@ pub fn test(ctx: &Context, fuel: u32, start: Count) -> Result<(bool, Count), Ref
     }
 }
 
+// As `test`: yes or no, beside the count.
 /// Inner: the same with one more row, which is off the context again however the test ends.
 pub fn test_with(
     ctx: &mut Context,

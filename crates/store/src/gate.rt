@@ -5,11 +5,12 @@ ghost use Rattle.store.specs.Stores.{passed};
 use base::refusal::Refusal;
 use std::marker::PhantomData;
 
-/// Lets nodes into a store of the kind `S`: open from when a draft is handed out until one is taken back.
+/// Lets nodes into a store of the kind `S`: open from when a draft is handed out until one is taken back. Only who has a
+/// mark of the kind can make one, so nobody but its store can.
 #[derive(Drop)]
 pub struct Gate<S> {
     is_open: bool,
-    of: PhantomData<S>,
+    mark: S,
 }
 
 /// A draft of a store of the kind `S`, and of no other: only its gate makes one, and it is no `Drop`.
@@ -19,12 +20,12 @@ pub struct Draft<S> {
 
 impl<S> Gate<S> {
     /// A closed gate.
-    pub fn new() -> Gate<S>
+    pub fn new(mark: S) -> Gate<S>
         ensures closed { result.is_open ≡ false }
     {
         Gate {
             is_open: false,
-            of: PhantomData,
+            mark,
         }
     }
 

@@ -6,8 +6,11 @@ use tree::node::Node;
 
 pub mod acts;
 
-/// The mark of a node store's gate and drafts. It has no values.
-pub enum Nodes {}
+/// The mark of a node store's gate and drafts: only this module can make one.
+#[derive(Drop)]
+pub struct Nodes {
+    mark: (),
+}
 
 /// Lists its first nodes; the table's length is the capacity. The table is handed in, so that
 /// neither making the store nor a put can want for memory, and the count stands beside it.

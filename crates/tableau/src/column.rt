@@ -7,6 +7,7 @@ ghost use Rattle.tableau.specs.Tables.{PivotAt, Ready, top};
 use crate::row::times;
 use crate::table::{Row, Table};
 
+// A table, a row (of the table, or one that is to join it) and columns: named at each call, as in the rule.
 /// Inner: whether column j beats column l as the entering column of row i.
 pub fn beats(t: &Table, i: &Row, j: usize, l: usize) -> bool
     requires ready { Ready t.now }

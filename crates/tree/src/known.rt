@@ -63,6 +63,7 @@ impl Known {
         0 <= self.value_of(form)
     }
 
+    // n ≤ 6 is asked of a number, here and at the walk: the system's counts have it in their type, a tree's head does not
     /// The point that a leaf gives: the values of its first n forms, zeros after them.
     pub(crate) fn leaf_values(&self, forms: &[NodeForm; 6], n: usize) -> [i64; 6]
         requires few { n ≤ 6 }

@@ -6,7 +6,7 @@ ghost use Rattle.page_store.specs.Costs.{byte_cost};
 ghost use Rattle.page_store.specs.PageStores.{meaning_of, offset_of};
 ghost use Rattle.tree.specs.Kinds.{kind_of};
 
-use super::{PageDraft, PageStore};
+use super::{PageDraft, PageStore, Pages};
 use crate::read::{length_of, node_from};
 use crate::write::write_record;
 use base::refusal::Refusal;
@@ -26,7 +26,7 @@ impl PageStore {
             index,
             count: 0,
             used: 0,
-            gate: Gate::new(),
+            gate: Gate::new(Pages { mark: () }),
         }
     }
 

@@ -3,7 +3,7 @@ ghost use Rattle.std.specs.Prelude.{◌≡◌, vec_len};
 ghost use Rattle.store.specs.NodeStores.{meaning_of, unit_cost};
 ghost use Rattle.store.specs.Stores.{fresh};
 
-use super::{NodeDraft, NodeStore};
+use super::{NodeDraft, NodeStore, Nodes};
 use crate::gate::Gate;
 use crate::store::Store;
 use base::refusal::Refusal;
@@ -18,7 +18,7 @@ impl NodeStore {
         NodeStore {
             table,
             count: 0,
-            gate: Gate::new(),
+            gate: Gate::new(Nodes { mark: () }),
         }
     }
 }
