@@ -8,4 +8,6 @@ mod page_stores;
 #[cfg(test)]
 mod questions;
 #[cfg(test)]
+mod solves;
+#[cfg(test)]
 mod stores;

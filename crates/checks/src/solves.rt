@@ -1,0 +1,69 @@
+//! Solves by example: work tables of several lengths, and fuel at its edges.
+use base::refusal::{Met, Place, Refusal};
+use solver::run::{Solved, solve_into};
+use source::rows::RowSource;
+use std::process::Abort;
+use std::test::Fail;
+use tree::node::Node;
+use worked_tree::WORKED;
+
+/// 2 × unknown ≥ k.
+fn half() -> Result<RowSource, Refusal> {
+    let mut source = RowSource::new(1, 1)?;
+    source.enter(&[2, -1, 0])?;
+    Ok(source)
+}
+
+fn all_blank(rt: &impl Abort, work: &[Node]) {
+    for node in work {
+        assert_eq!(rt; *node, Node::None);
+    }
+}
+
+#[test]
+fn a_tree_fills_just_its_nodes(rt: HostRuntime) -> Result<(), Fail> {
+    let source = half()?;
+    let mut work = [WORKED[1]; 7];
+    let solved = Solved {
+        steps: 12,
+        nodes: 5,
+    };
+    assert_eq!(rt; solve_into(&source, &mut work[..5], 12), Ok(solved));
+    assert_eq!(rt; &work[..5], WORKED.as_slice());
+    assert_eq!(rt; work[5], WORKED[1]);
+    assert_eq!(rt; solve_into(&source, &mut work, 100_000), Ok(solved));
+    assert_eq!(rt; &work[..5], WORKED.as_slice());
+    all_blank(&rt, &work[5..]);
+    Ok(())
+}
+
+#[test]
+fn shorter_work_tables_are_full_and_left_blank(rt: HostRuntime) -> Result<(), Fail> {
+    let source = half()?;
+    for length in 0..5usize {
+        let mut work = [WORKED[1]; 5];
+        let answer = solve_into(&source, &mut work[..length], 12);
+        assert!(rt; matches!(answer, Err(Refusal::WorkFull(_))));
+        all_blank(&rt, &work[..length]);
+    }
+    Ok(())
+}
+
+#[test]
+fn fuel_has_its_limits(rt: HostRuntime) -> Result<(), Fail> {
+    let source = half()?;
+    let mut work = [WORKED[1]; 5];
+    assert_eq!(rt; solve_into(&source, &mut work, -1), Err(Refusal::Fuel));
+    all_blank(&rt, &work);
+    assert_eq!(rt; solve_into(&source, &mut work, 100_001), Err(Refusal::Fuel));
+    let met = Met {
+        steps: 11,
+        place: Place::Test,
+    };
+    assert_eq!(rt;
+        solve_into(&source, &mut work, 11),
+        Err(Refusal::FuelSpent(met))
+    );
+    all_blank(&rt, &work);
+    Ok(())
+}
