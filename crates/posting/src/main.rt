@@ -9,7 +9,7 @@ use nest::nest::Nest;
 use solver::run::solve_into;
 use source::source::Source;
 use std::alloc::{AllocError, AllocFailed};
-use std::io;
+use std::io::Read;
 use tree::node::Node;
 use tree::walk::{Found, find};
 
@@ -46,12 +46,48 @@ impl<T: Drop> From<AllocFailed<T>> for Stop {
     }
 }
 
-/// A nest as it is read, and how many of its loops have their bound.
+/// A nest's solution tree, in its work table.
+#[derive(Clone, Copy)]
+struct Tree {
+    work: [Node; WORK],
+    nodes: usize,
+}
+
+impl Tree {
+    /// Solves the nest.
+    fn of(nest: &Nest) -> Result<Tree, Refusal> {
+        let mut work = [Node::None; WORK];
+        let solved = solve_into(nest, &mut work, FUEL)?;
+        Ok(Tree {
+            work,
+            nodes: solved.nodes,
+        })
+    }
+
+    /// Its nodes.
+    fn nodes(&self) -> &[Node] {
+        &self.work[..self.nodes.min(WORK)]
+    }
+
+    /// The latest posting at a parameter point: its counters are left in the place.
+    fn latest(&self, nest: &Nest, point: &[i64], place: &mut [i64; 6]) -> Result<Found, Refusal> {
+        let mut least = [0; 6];
+        let found = find(self.nodes(), point, &mut least)?;
+        if let Found::Point = found {
+            nest.back(point, &least, place)?;
+        }
+        Ok(found)
+    }
+}
+
+/// A nest as it is read, how many of its loops have their bound, and its tree: solved when it is first asked, since
+/// one tree answers at every parameter point.
 #[derive(Clone, Copy)]
 struct Reading {
     nest: Nest,
     // bounds, counted: no buffer has this length
     bounded: usize,
+    solved: Option<Result<Tree, Refusal>>,
 }
 
 /// The numbers of a line.
@@ -69,45 +105,72 @@ fn numbers_of(rt: &HostRuntime, line: &[u8]) -> Result<Vec<i64>, Stop> {
     Err(Stop::Refused(Refusal::Listing))
 }
 
-/// A fresh nest from the first line: `loops` and its two counts.
-fn first_line(rt: &HostRuntime, line: &[u8]) -> Result<Reading, Stop> {
-    let (word, rest) = first_word(line);
-    let numbers = numbers_of(rt, rest)?;
-    match (word, numbers.as_slice()) {
-        (b"loops", [n, p]) => {
-            let count = |x: &i64| usize::try_from(*x).map_err(|_| Refusal::Counts);
-            let nest = Nest::new(count(n)?, count(p)?)?;
-            Ok(Reading { nest, bounded: 0 })
+impl Reading {
+    /// A fresh nest from the first line: `loops` and its two counts.
+    fn begin(word: &[u8], numbers: &[i64]) -> Result<Reading, Refusal> {
+        match (word, numbers) {
+            (b"loops", [n, p]) => {
+                let count = |x: &i64| usize::try_from(*x).map_err(|_| Refusal::Counts);
+                Ok(Reading {
+                    nest: Nest::new(count(n)?, count(p)?)?,
+                    bounded: 0,
+                    solved: None,
+                })
+            }
+            _ => Err(Refusal::Listing),
         }
-        _ => Err(Stop::Refused(Refusal::Listing)),
     }
-}
 
-/// Gives the nest what a line says: the bound of the next loop, a cell condition or a context row.
-fn add(reading: &mut Reading, word: &[u8], numbers: &[i64]) -> Result<(), Refusal> {
-    match word {
-        b"bound" => {
-            reading.nest.bound(reading.bounded, numbers)?;
-            reading.bounded = reading.bounded.saturating_add(1);
-            Ok(())
+    /// Gives the nest what a line says: the bound of the next loop, a cell condition or a context row. A tree of the
+    /// nest before it no longer counts.
+    fn add(&mut self, word: &[u8], numbers: &[i64]) -> Result<(), Refusal> {
+        self.solved = None;
+        match word {
+            b"bound" => {
+                self.nest.bound(self.bounded, numbers)?;
+                self.bounded = self.bounded.saturating_add(1);
+                Ok(())
+            }
+            b"cell" => self.nest.cell(numbers),
+            b"context" => self.nest.confine(numbers),
+            _ => Err(Refusal::Listing),
         }
-        b"" => Ok(()),
-        b"cell" => reading.nest.cell(numbers),
-        b"context" => reading.nest.confine(numbers),
-        _ => Err(Refusal::Listing),
     }
-}
 
-/// The latest posting at a parameter point: its counters are left in the place.
-fn latest(nest: &Nest, point: &[i64], place: &mut [i64; 6]) -> Result<Found, Refusal> {
-    let mut work = [Node::None; WORK];
-    let solved = solve_into(nest, &mut work, FUEL)?;
-    let mut least = [0; 6];
-    let found = find(&work[0..solved.nodes.min(WORK)], point, &mut least)?;
-    if let Found::Point = found {
-        nest.back(point, &least, place)?;
+    /// The latest posting at a parameter point: its counters are left in the place.
+    fn ask(&mut self, point: &[i64], place: &mut [i64; 6]) -> Result<Found, Refusal> {
+        let nest = &self.nest;
+        match self.solved.get_or_insert_with(|| Tree::of(nest)) {
+            Ok(tree) => tree.latest(nest, point, place),
+            Err(refusal) => Err(*refusal),
+        }
     }
-    Ok(found)
+
+    /// Prints the latest posting at a parameter point.
+    fn answer(&mut self, rt: &HostRuntime, point: &[i64]) -> anyhow::Result<()> {
+        print!(rt; "at")?;
+        print_numbers(rt, point)?;
+        let mut place = [0; 6];
+        match self.ask(point, &mut place) {
+            Ok(Found::Point) => {
+                print!(rt; ": latest")?;
+                print_numbers(rt, &place[..self.nest.unknowns().min(6)])?;
+                println!(rt; "")?;
+            }
+            Ok(Found::None) => println!(rt; ": no posting")?,
+            Err(refusal) => println!(rt; ": refused {}", refusal.number())?,
+        }
+        Ok(())
+    }
+
+    /// Takes a further line: something for the nest, or a question.
+    fn take(&mut self, rt: &HostRuntime, word: &[u8], numbers: &[i64]) -> Result<(), Stop> {
+        match word {
+            b"at" => self.answer(rt, numbers)?,
+            _ => self.add(word, numbers)?,
+        }
+        Ok(())
+    }
 }
 
 fn print_numbers(rt: &HostRuntime, numbers: &[i64]) -> anyhow::Result<()> {
@@ -117,48 +180,30 @@ fn print_numbers(rt: &HostRuntime, numbers: &[i64]) -> anyhow::Result<()> {
     Ok(())
 }
 
-/// Prints the latest posting at a parameter point.
-fn answer(rt: &HostRuntime, nest: &Nest, point: &[i64]) -> anyhow::Result<()> {
-    print!(rt; "at")?;
-    print_numbers(rt, point)?;
-    let mut place = [0; 6];
-    match latest(nest, point, &mut place) {
-        Ok(Found::Point) => {
-            print!(rt; ": latest")?;
-            print_numbers(rt, &place[0..nest.unknowns().min(6)])?;
-            println!(rt; "")?;
+/// Takes the lines up to the first that is refused; empty ones do not count.
+fn take_lines(rt: &HostRuntime, text: &[u8]) -> Result<(), Stop> {
+    let mut reading = None;
+    for line in text.split(|b| *b == b'\n') {
+        let (word, rest) = first_word(line);
+        if word.is_empty() {
+            continue;
         }
-        Ok(Found::None) => println!(rt; ": no posting")?,
-        Err(refusal) => println!(rt; ": refused {}", refusal.number())?,
+        let numbers = numbers_of(rt, rest)?;
+        match &mut reading {
+            None => reading = Some(Reading::begin(word, numbers.as_slice())?),
+            Some(reading) => reading.take(rt, word, numbers.as_slice())?,
+        }
     }
-    Ok(())
-}
-
-/// Takes a further line: something for the nest, or a question.
-fn take_line(rt: &HostRuntime, reading: &mut Reading, line: &[u8]) -> Result<(), Stop> {
-    let (word, rest) = first_word(line);
-    let numbers = numbers_of(rt, rest)?;
-    match word {
-        b"at" => answer(rt, &reading.nest, &numbers)?,
-        _ => add(reading, word, &numbers)?,
+    match reading {
+        Some(_) => Ok(()),
+        None => Err(Stop::Refused(Refusal::Listing)),
     }
-    Ok(())
-}
-
-/// Takes the lines up to the first that is refused.
-fn take_lines(rt: &HostRuntime, text: &str) -> Result<(), Stop> {
-    let mut lines = text.lines();
-    let first = lines.next().unwrap_or("");
-    let mut reading = first_line(rt, first.as_bytes())?;
-    for line in lines {
-        take_line(rt, &mut reading, line.as_bytes())?;
-    }
-    Ok(())
 }
 
 fn run(rt: &HostRuntime) -> anyhow::Result<()> {
-    let text = io::read_to_string(rt.alloc(), rt.stdin())?;
-    match take_lines(rt, text.as_str()) {
+    let mut text = Vec::new(rt.alloc());
+    rt.stdin().read_to_end(&mut text)?;
+    match take_lines(rt, text.as_slice()) {
         Ok(()) => Ok(()),
         Err(Stop::Refused(refusal)) => {
             println!(rt; "refused {}", refusal.number())?;
