@@ -1,11 +1,11 @@
 -- What a record can hold, as facts.
-use Rattle.std.proofs.Common.{◌≡◌, true, List, [], ◌∷◌, length, ℤ, refl, w32, SFits}
+use Rattle.std.proofs.Common.{◌≡◌, true, List, [], ◌∷◌, ◌++◌, length, ℤ, refl, w32, SFits}
 use Rattle.std.proofs.lemmas.Bool.{and_from, and_parts, eq-eqb, eqb-true, lt-ltb, ltb-true}
 use Rattle.tree.specs.declared.node.Node.{Node}
 use Rattle.tree.specs.declared.node.Node.TheVariants.{Head, Keep, Split, New, Leaf, None}
 use Rattle.page.specs.Words.{Fit32}
 use Rattle.page.proofs.Words.{AllTen, Ten}
-use Rattle.page.specs.Records.{all_fit32, all_ten, fits32, holdable, ten}
+use Rattle.page.specs.Records.{all_fit32, all_holdable, all_ten, fits32, holdable, ten}
 
 abbrev pub Holdable : Node → Type 0
 Holdable (Head n p) = Unit {0}
@@ -14,6 +14,14 @@ Holdable (Split C) = Ten C
 Holdable (New d T) = SFits w32 d × Ten T
 Holdable (Leaf Cs) = (length Cs ≡ 6) × AllTen Cs
 Holdable None = Unit {0}
+
+abbrev pub AllHoldable : List Node → Type 0
+AllHoldable [] = Unit {0}
+AllHoldable (x ∷ xs) = Holdable x × AllHoldable xs
+
+pub all-holdable-++ : (xs ys : List Node) → AllHoldable xs → AllHoldable ys → AllHoldable (xs ++ ys)
+all-holdable-++ [] ys a b = b
+all-holdable-++ (x ∷ xs) ys a b = (a.0, all-holdable-++ xs ys a.1 b)
 
 pub fits-from : (z : ℤ) → fits32 z ≡ true → SFits w32 z
 fits-from z e = record { sfits = ltb-true _ _ e }
@@ -58,3 +66,11 @@ holdable-to (Split C) h = ten-to C h
 holdable-to (New d T) h = and_from (fits32 d) (ten T) (fits-to d h.0) (ten-to T h.1)
 holdable-to (Leaf Cs) h = and_from _ (all_ten Cs) (eq-eqb _ _ h.0) (all-ten-to Cs h.1)
 holdable-to None h = refl
+
+pub all_from : (xs : List Node) → all_holdable xs ≡ true → AllHoldable xs
+all_from [] e = tt
+all_from (x ∷ xs) e = let p = and_parts (holdable x) (all_holdable xs) e in (holdable-from x p.0, all_from xs p.1)
+
+pub all-to : (xs : List Node) → AllHoldable xs → all_holdable xs ≡ true
+all-to [] h = refl
+all-to (x ∷ xs) h = and_from (holdable x) (all_holdable xs) (holdable-to x h.0) (all-to xs h.1)

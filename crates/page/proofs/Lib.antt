@@ -2,6 +2,7 @@ mod Checking
 mod Chunks
 pub mod Fitting
 pub mod Holding
+pub mod Listing
 pub mod Pasting
 pub mod Reading
 pub mod Regained

@@ -1,9 +1,9 @@
 -- The reading of a page is exact: it accepts the pages of the trees within the limits, each as that tree.
 use Rattle.std.proofs.Common.{◌≡◌, ℕ, zero, suc, ◌+◌, ◌-◌, ◌<◌, ◌≤◌, true, cond, ◌&&◌, eqb, ltb, leb, List, [], ◌∷◌, ◌++◌, map, length, take, drop, replicate, ℤ, Some, None, Ok, Err, sym, refl, ap, ◌∙◌, subst, ap₂, append_assoc, append-nil, arith, length-append}
+use Rattle.std.proofs.lemmas.Grind.{flat_map-append}
 use Rattle.std.proofs.lemmas.List.{drop_at, length-replicate, length-take-le, nil_from_length, take-append-drop, take_at}
 use Rattle.std.proofs.lemmas.Bool.{and_parts, cond_both, cond-false, cond-true, eqb-false, le-ltb, leb-true, lt-ltb, ltb-false, ltb-true, ne_eqb}
 use Rattle.tree.proofs.Walking.{fits_head}
-use Rattle.tree.specs.declared.node.Node.{Node}
 use Rattle.tree.specs.declared.node.Node.TheVariants.{Keep}
 use Rattle.tree.specs.Trees.{Tree, split, new, leaf, none, nodes, six_forms}
 use Rattle.tree.specs.Limits.{AllFormsFit, TreeFits, WithinLimits}
@@ -18,10 +18,6 @@ use Rattle.page.specs.Pages.{Accepted, Fits, IsPage, Refused, WrittenAccepted, c
 use Rattle.page.specs.Ties.{Allowed}
 use Rattle.page.proofs.Words.{AllTen, Ten, form-of, forms-exact, forms-of, length-form, length-forms, length-six, length-words, word_bytes, words-exact}
 use Rattle.page.proofs.Fitting.{form_in, form-out, form-ten, forms-tens, leaf-in, leaf-out, new-d, new_in, new-out, six-tens, zero_form}
-
-page-++ : (xs ys : List Node) → page_of (xs ++ ys) ≡ page_of xs ++ page_of ys
-page-++ [] ys = refl
-page-++ (x ∷ xs) ys = ap (λ l. record_of x ++ l) (page-++ xs ys) ∙ sym (append_assoc (record_of x) (page_of xs) (page_of ys))
 
 -- ---- soundness: a record that is opened stands there
 
@@ -79,7 +75,7 @@ join : (k : ℕ) (a b p r r₁ : List ℕ) → a ≡ b → r ≡ p ++ r₁ → k
 join k a b p r r₁ e f = ap {B = List ℕ} (λ l. k ∷ l) (ap₂ ◌++◌ (sym e) f ∙ sym (append_assoc a p r₁))
 
 join-two : (t u : Tree) (r r₁ r₂ : List ℕ) → r ≡ tree_page t ++ r₁ → r₁ ≡ tree_page u ++ r₂ → r ≡ page_of (nodes t ++ nodes u) ++ r₂
-join-two t u r r₁ r₂ e f = e ∙ ap (λ l. tree_page t ++ l) f ∙ sym (append_assoc (tree_page t) (tree_page u) r₂) ∙ ap (λ l. l ++ r₂) (sym (page-++ (nodes t) (nodes u)))
+join-two t u r r₁ r₂ e f = e ∙ ap (λ l. tree_page t ++ l) f ∙ sym (append_assoc (tree_page t) (tree_page u) r₂) ∙ ap (λ l. l ++ r₂) (sym (flat_map-append record_of (nodes t) (nodes u)))
 
 words_more : (n : ℕ) (b : List ℕ) → words (suc n) b ≡ word b ∷ words n (drop 4 b)
 unfolding words
@@ -189,7 +185,7 @@ below_right n p bs ok h =
     then-right keep_page (Kept p 8) bs (1 ∷ n ∷ p ∷ bs) (keeps p 8 bs) (λ Cs r₁. then (parse n p 18 0 12 r₁) (λ t r₂. ended n p Cs t r₂)) (keeps-good p 8 bs h) (λ Cs r₁ e₁ f₁ h₁.
     then-right tree_page (TreeFits n p 0 12) r₁ (1 ∷ n ∷ p ∷ bs) (parse n p 18 0 12 r₁) (λ t r₂. ended n p Cs t r₂) (parse-good n p six 18 0 12 r₁ h₁) (λ t r₂ e₂ f₂ h₂.
     ended-right n p Cs t (1 ∷ n ∷ p ∷ bs) r₂
-    (ap {B = List ℕ} (λ l. 1 ∷ n ∷ p ∷ l) (e₁ ∙ ap (λ l. keep_page Cs ++ l) e₂ ∙ sym (append_assoc (keep_page Cs) (tree_page t) r₂) ∙ ap (λ l. l ++ r₂) (sym (page-++ (map Keep Cs) (nodes t)))))
+    (ap {B = List ℕ} (λ l. 1 ∷ n ∷ p ∷ l) (e₁ ∙ ap (λ l. keep_page Cs ++ l) e₂ ∙ sym (append_assoc (keep_page Cs) (tree_page t) r₂) ∙ ap (λ l. l ++ r₂) (sym (flat_map-append record_of (map Keep Cs) (nodes t)))))
     (record { unknowns_least = leb-true 1 n u.0; unknowns_most = six; parameters_most = leb-true p 4 v.1; keeps_most = f₁.0; keeps_fit = f₁.1; tree_fits = f₂ })))
 
 head-right : (bs b r : List ℕ) → bs ≡ 1 ∷ (b ++ r) → length b ≡ 2 → Bytes r → Right bs (head_at bs head_kind b r)
@@ -244,7 +240,7 @@ complete n p six (split C t u) (suc f) made left r lt h =
     let b = all_bytes C in
     let rest = tree_page t ++ (tree_page u ++ r) in
     let q : tree_page (split C t u) ++ r ≡ 3 ∷ (b ++ rest) =
-    ap {B = List ℕ} (λ l. 3 ∷ l) (append_assoc b (page_of (nodes t ++ nodes u)) r ∙ ap (λ l. b ++ l) (ap (λ l. l ++ r) (page-++ (nodes t) (nodes u)) ∙ append_assoc (tree_page t) (tree_page u) r)) in
+    ap {B = List ℕ} (λ l. 3 ∷ l) (append_assoc b (page_of (nodes t ++ nodes u)) r ∙ ap (λ l. b ++ l) (ap (λ l. l ++ r) (flat_map-append record_of (nodes t) (nodes u)) ∙ append_assoc (tree_page t) (tree_page u) r)) in
     let o : opening made left (3 ∷ (b ++ rest)) ≡ one split_kind b rest =
     ap (λ e. unless e (opened_as (Some split_kind) (b ++ rest))) (cond-false (eqb left 0) _ _ (ne_eqb left 0 (omega (arith, h.0)))) ∙ opened-is split_kind b rest (length-form C ten) in
     ap (parse n p (suc f) made left) q
@@ -307,7 +303,7 @@ of-page (whole n p Cs t) f =
     let L : List ℕ = 1 ∷ n ∷ p ∷ rest in
     ap (λ o. taking o L (head_at L)) (opened-is head_kind (n ∷ p ∷ []) rest refl)
     ∙ cond-true (head_fits n p) _ _ (fits_head n p f.unknowns_least f.unknowns_most f.parameters_most)
-    ∙ ap (below n p) (page-++ (map Keep Cs) (nodes t))
+    ∙ ap (below n p) (flat_map-append record_of (map Keep Cs) (nodes t))
     ∙ ap (λ o. then o (λ Cs r₁. then (parse n p 18 0 12 r₁) (λ t r₂. ended n p Cs t r₂))) (keeps-is p 8 Cs (tree_page t) f.keeps_most f.keeps_fit (no-keep t))
     ∙ ap (λ o. then o (λ t r₂. ended n p Cs t r₂)) (ap (parse n p 18 0 12) (sym (append-nil (tree_page t))) ∙ complete n p f.unknowns_most t 18 0 12 [] (omega arith) f.tree_fits)
 

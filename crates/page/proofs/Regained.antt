@@ -1,5 +1,5 @@
 -- Nodes read back from a page.
-use Rattle.std.proofs.Common.{◌≡◌, ℕ, zero, suc, ◌+◌, ◌-◌, ◌<◌, ◌≤◌, List, [], ◌∷◌, ◌++◌, map, length, get_or, replicate, ℤ, Ok, Err, sym, refl, ap, ◌∙◌, subst, ap₂, arith, length-append, w32, SFits, Bor}
+use Rattle.std.proofs.Common.{◌≡◌, ℕ, zero, suc, ◌+◌, ◌-◌, ◌<◌, ◌≤◌, List, [], ◌∷◌, ◌++◌, map, length, get_or, replicate, ℤ, Ok, Err, sym, refl, ap, ◌∙◌, subst, ap₂, arith, length-append, Bor}
 use Rattle.std.proofs.lemmas.List.{length-replicate}
 use Rattle.tree.specs.declared.node.Node.{Node}
 use Rattle.tree.specs.declared.node.Node.TheVariants.{Head, Keep, Split, New, Leaf, None as Blank}
@@ -13,18 +13,17 @@ use Rattle.page.specs.Readings.{Whole, whole}
 use Rattle.page.specs.Pages.{Fits, IsPage, list_of}
 use Rattle.page.specs.Ties.{Reads, body_in, kind_in}
 use Rattle.page.proofs.Checking.{reads-flaw, reads-one}
+use Rattle.page.proofs.Holding.{AllHoldable, Holdable, all-holdable-++}
 use Rattle.page.proofs.Fitting.{form-ten, new-d, six-tens, zero_form}
 use Rattle.page.proofs.Reading.{form-exact, opened-is, six-exact}
-use Rattle.page.proofs.Words.{AllTen, Ten, length-form, length-six, word_bytes}
+use Rattle.page.proofs.Words.{length-form, length-six, word_bytes}
 
 -- ---- the turns of the loop
 
 node-first : (f : ℕ) (bs : List ℕ) (q : Record × Bor (List ℕ)) → Reads (opened bs) (Ok q) → nodes_in (suc f) bs ≡ node_of (kind_in q.0) (body_in q.0) ∷ nodes_in f q.1.now
-unfolding nodes_in
 node-first f bs q s = ap (nodes_from (nodes_in f)) (reads-one (opened bs) q s)
 
 node-none : (f : ℕ) (bs : List ℕ) (e : Flaw) → Reads (opened bs) (Err e) → nodes_in f bs ≡ []
-unfolding nodes_in
 node-none zero bs e s = refl
 node-none (suc f) bs e s = ap (nodes_from (nodes_in f)) (reads-flaw (opened bs) e s)
 
@@ -45,24 +44,8 @@ arrived N i k bs q a x l le s h is e =
 
 -- ---- what is written reads back
 
-abbrev Written : Node → Type 0
-Written (Head n p) = Unit {0}
-Written (Keep C) = Ten C
-Written (Split C) = Ten C
-Written (New d T) = SFits w32 d × Ten T
-Written (Leaf Cs) = (length Cs ≡ 6) × AllTen Cs
-Written Blank = Unit {0}
-
-abbrev AllWritten : List Node → Type 0
-AllWritten [] = Unit {0}
-AllWritten (x ∷ xs) = Written x × AllWritten xs
-
-all-written-++ : (xs ys : List Node) → AllWritten xs → AllWritten ys → AllWritten (xs ++ ys)
-all-written-++ [] ys a b = b
-all-written-++ (x ∷ xs) ys a b = (a.0, all-written-++ xs ys a.1 b)
-
--- a record that is written is opened, and its node is the one that was written
-node-back : (node : Node) (r : List ℕ) → Written node → (k : Kind) × ((b : List ℕ) × ((opened (record_of node ++ r) ≡ one k b r) × (node_of k b ≡ node)))
+-- the record of a node is opened, and its node is that one
+pub node-back : (node : Node) (r : List ℕ) → Holdable node → (k : Kind) × ((b : List ℕ) × ((opened (record_of node ++ r) ≡ one k b r) × (node_of k b ≡ node)))
 node-back (Head n p) r w = (head_kind, (n ∷ p ∷ [], (opened-is head_kind (n ∷ p ∷ []) r refl, refl)))
 node-back (Keep C) r w = (keep_kind, (all_bytes C, (opened-is keep_kind (all_bytes C) r (length-form C w), ap Keep (form-exact C w))))
 node-back (Split C) r w = (split_kind, (all_bytes C, (opened-is split_kind (all_bytes C) r (length-form C w), ap Split (form-exact C w))))
@@ -72,7 +55,8 @@ node-back (New d T) r w =
 node-back (Leaf Cs) r w = (leaf_kind, (forms_bytes Cs, (opened-is leaf_kind (forms_bytes Cs) r (omega (arith, length-six Cs w.1, w.0)), ap Leaf (six-exact Cs w.1 w.0))))
 node-back Blank r w = (none_kind, ([], (opened-is none_kind [] r refl, refl)))
 
-some_bytes : (node : Node) → 1 ≤ length (record_of node)
+-- no record is empty
+pub some_bytes : (node : Node) → 1 ≤ length (record_of node)
 some_bytes (Head n p) = omega arith
 some_bytes (Keep C) = omega arith
 some_bytes (Split C) = omega arith
@@ -80,8 +64,7 @@ some_bytes (New d T) = omega arith
 some_bytes (Leaf Cs) = omega arith
 some_bytes Blank = omega arith
 
-pub list_back : (f : ℕ) (list : List Node) → AllWritten list → length (page_of list) ≤ f → nodes_in f (page_of list) ≡ list
-unfolding nodes_in
+pub list_back : (f : ℕ) (list : List Node) → AllHoldable list → length (page_of list) ≤ f → nodes_in f (page_of list) ≡ list
 list_back zero [] w l = refl
 list_back (suc f) [] w l = refl
 list_back zero (node ∷ rest) w l = absurd (let no : ⊥ = omega (arith, l, some_bytes node, length-append (record_of node) (page_of rest)) in no)
@@ -89,21 +72,21 @@ list_back (suc f) (node ∷ rest) w l =
     let b = node-back node (page_of rest) w.0 in
     ap (nodes_from (nodes_in f)) b.1.1.0 ∙ ap₂ ◌∷◌ b.1.1.1 (list_back f rest w.1 (omega (arith, l, some_bytes node, length-append (record_of node) (page_of rest))))
 
-keeps-written : (p : ℕ) (Cs : List (List ℤ)) → AllFormsFit p 0 Cs → AllWritten (map Keep Cs)
-keeps-written p [] f = tt
-keeps-written p (C ∷ Cs) f = (form-ten p 0 C f.0, keeps-written p Cs f.1)
+keeps-holdable : (p : ℕ) (Cs : List (List ℤ)) → AllFormsFit p 0 Cs → AllHoldable (map Keep Cs)
+keeps-holdable p [] f = tt
+keeps-holdable p (C ∷ Cs) f = (form-ten p 0 C f.0, keeps-holdable p Cs f.1)
 
-tree-written : (n p : ℕ) → n ≤ 6 → (t : Tree) (made left : ℕ) → TreeFits n p made left t → AllWritten (nodes t)
-tree-written n p six (split C t u) made left f =
-    (form-ten p made C f.1.0, all-written-++ (nodes t) (nodes u) (tree-written n p six t made (left - 1) f.1.1.0) (tree-written n p six u made (left - 1) f.1.1.1))
-tree-written n p six (new d T t) made left f = ((new-d p made d T f.1.0, form-ten p made T f.1.0.form), tree-written n p six t (suc made) left f.1.1)
-tree-written n p six (leaf Cs) made left f =
+tree-holdable : (n p : ℕ) → n ≤ 6 → (t : Tree) (made left : ℕ) → TreeFits n p made left t → AllHoldable (nodes t)
+tree-holdable n p six (split C t u) made left f =
+    (form-ten p made C f.1.0, all-holdable-++ (nodes t) (nodes u) (tree-holdable n p six t made (left - 1) f.1.1.0) (tree-holdable n p six u made (left - 1) f.1.1.1))
+tree-holdable n p six (new d T t) made left f = ((new-d p made d T f.1.0, form-ten p made T f.1.0.form), tree-holdable n p six t (suc made) left f.1.1)
+tree-holdable n p six (leaf Cs) made left f =
     ((omega (arith, length-append Cs (replicate (6 - length Cs) zero_form), length-replicate (6 - length Cs) zero_form, f.0, six), six-tens p made Cs (6 - length Cs) f.1), tt)
-tree-written n p six none made left f = (tt, tt)
+tree-holdable n p six none made left f = (tt, tt)
 
-all-written : (w : Whole) → Fits w → AllWritten (list_of w)
-all-written (whole n p Cs t) f = (tt, all-written-++ (map Keep Cs) (nodes t) (keeps-written p Cs f.keeps_fit) (tree-written n p f.unknowns_most t 0 12 f.tree_fits))
+all-holdable : (w : Whole) → Fits w → AllHoldable (list_of w)
+all-holdable (whole n p Cs t) f = (tt, all-holdable-++ (map Keep Cs) (nodes t) (keeps-holdable p Cs f.keeps_fit) (tree-holdable n p f.unknowns_most t 0 12 f.tree_fits))
 
 pub page-back : (bs : List ℕ) (w : Whole) → IsPage bs w → nodes_in (length bs) bs ≡ list_of w
 page-back bs w i =
-    subst (λ l. nodes_in (length l) l ≡ list_of w) (sym i.1) (list_back (length (page_of (list_of w))) (list_of w) (all-written w i.0) (omega arith))
+    subst (λ l. nodes_in (length l) l ≡ list_of w) (sym i.1) (list_back (length (page_of (list_of w))) (list_of w) (all-holdable w i.0) (omega arith))

@@ -1,5 +1,5 @@
 -- What a page is: exactly one whole tree within the limits.
-use Rattle.std.specs.Prelude.{◌≡◌, ℕ, ◌-◌, List, length, Ok, Err, Result, slice_index_or}
+use Rattle.std.specs.Prelude.{◌≡◌, ℕ, ◌-◌, List, length, take, Some, Ok, Err, Option, Result, slice_index_or}
 use Rattle.base.specs.declared.refusal.Refusal.{Refusal}
 use Rattle.base.specs.declared.refusal.Refusal.TheVariants.{PageLength, PageKind, PageNumber, PageDepth}
 use Rattle.tree.specs.declared.node.Node.{Node}
@@ -8,7 +8,7 @@ use Rattle.tree.specs.Limits.{WithinLimits}
 use Rattle.tree.specs.Questions.{all_nodes}
 use Rattle.page.specs.declared.record.Flaw.{Flaw}
 use Rattle.page.specs.declared.record.Flaw.TheVariants.{Length as FlawLength, Kind as FlawKind, Number as FlawNumber, Depth as FlawDepth}
-use Rattle.page.specs.Records.{page_of}
+use Rattle.page.specs.Records.{nodes_in, page_of}
 use Rattle.page.specs.Readings.{Out, Whole, done, fault, reading, whole}
 
 abbrev pub list_of : Whole → List Node
@@ -50,3 +50,8 @@ Refused bs r = (e : Refusal) → r ≡ Err e → (w : Whole) → IsPage bs w →
 -- the page of a tree reads back as the tree's nodes
 abbrev pub ReadsBack : List ℕ → ℕ → Node → Type 0
 ReadsBack bs i node = (w : Whole) → IsPage bs w → node ≡ slice_index_or (list_of w) i Blank
+
+-- the nodes of a tree within the limits, once written, are a page: it is accepted with their count, and reads back as them
+abbrev pub WritesTree : List Node → List ℕ → Option ℕ → Type 0
+WritesTree nodes bs r =
+    (w : Whole) → Fits w → nodes ≡ list_of w → (k : ℕ) → r ≡ Some k → (checked (take k bs) ≡ Ok (length nodes)) × (nodes_in k (take k bs) ≡ nodes)

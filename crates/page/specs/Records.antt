@@ -1,6 +1,7 @@
 -- The records of a page: one byte of kind, then a body whose length the kind fixes.
 use Rattle.std.specs.Prelude.{ℕ, zero, suc, ◌+◌, ◌^◌, Bool, true, cond, ◌&&◌, List, [], ◌∷◌, ◌++◌, length, take, drop, ℤ, Some, None, Option, ◌==◌, nat_le, nat_lt, slice_index}
 use Rattle.std.specs.Int.Signed.{mag}
+use Rattle.std.specs.List.{flat_map, list_all, sum_by}
 use Rattle.tree.specs.declared.node.Node.{Node}
 use Rattle.tree.specs.declared.node.Node.TheVariants.{Head, Keep, Split, New, Leaf, None as Blank}
 use Rattle.tree.specs.Kinds.{kind_of as kind_of_node}
@@ -35,8 +36,7 @@ record_of Blank = 6 ∷ []
 
 -- a list of nodes as a page
 abbrev pub page_of : List Node → List ℕ
-page_of [] = []
-page_of (node ∷ rest) = record_of node ++ page_of rest
+page_of nodes = flat_map record_of nodes
 
 -- what stands first: a record, by its kind and body, and what comes after it; or why there is none
 pub data Opened : Type 0 where
@@ -65,13 +65,17 @@ abbrev pub nodes_from : (List ℕ → List Node) → Opened → List Node
 nodes_from self (one k b r) = node_of k b ∷ self r
 nodes_from self (flawed e) = []
 
-unfoldable pub nodes_in : ℕ → List ℕ → List Node
+abbrev pub nodes_in : ℕ → List ℕ → List Node
 nodes_in zero bs = []
 nodes_in (suc f) bs = nodes_from (nodes_in f) (opened bs)
 
 -- how many bytes the record of a node takes
 abbrev pub cost_of : Node → ℕ
 cost_of node = record_length (kind_of_node node)
+
+-- and the records of a list of nodes
+abbrev pub cost_of_all : List Node → ℕ
+cost_of_all nodes = sum_by cost_of nodes
 
 -- bytes written over others from a place on
 abbrev pub pasted : ℕ → List ℕ → List ℕ → List ℕ
@@ -83,6 +87,13 @@ fits_at offset node bs = nat_le (offset + cost_of node) (length bs)
 
 abbrev pub written_at : ℕ → Node → List ℕ → List ℕ
 written_at offset node bs = cond (fits_at offset node bs) (pasted offset (record_of node) bs) bs
+
+-- the records of a list of nodes, written over the page from its first byte on: how many bytes they take, where so many are enough
+abbrev pub list_answer : List Node → ℕ → Option ℕ
+list_answer nodes bytes = cond (nat_le (cost_of_all nodes) bytes) (Some (cost_of_all nodes)) None
+
+abbrev pub list_written : List Node → List ℕ → List ℕ
+list_written nodes bs = cond (nat_le (cost_of_all nodes) (length bs)) (page_of nodes ++ drop (cost_of_all nodes) bs) bs
 
 -- a number of 32 bits; ten of them
 abbrev pub fits32 : ℤ → Bool
@@ -107,3 +118,6 @@ holdable (Split C) = ten C
 holdable (New d T) = fits32 d && ten T
 holdable (Leaf Cs) = length Cs == 6 && all_ten Cs
 holdable Blank = true
+
+abbrev pub all_holdable : List Node → Bool
+all_holdable nodes = list_all holdable nodes

@@ -47,19 +47,19 @@ fn part<const N: usize>(rest: &[u8]) -> Result<(&[u8; N], &[u8]), Flaw>
 }
 
 /// The record that stands first, and what comes after it.
-pub fn read(rest: &[u8]) -> Result<(Record, &[u8]), Flaw>
-    ensures reads { Reads (opened rest.now) result }
-    ensures shorter { IfOk result (λ q. length q.1.now + 1 ≤ length rest.now) }
+pub fn read(bytes: &[u8]) -> Result<(Record, &[u8]), Flaw>
+    ensures reads { Reads (opened bytes.now) result }
+    ensures shorter { IfOk result (λ q. length q.1.now + 1 ≤ length bytes.now) }
 {
-    match rest {
+    match bytes {
         [] => Err(Flaw::Length),
-        [kind, bytes @ ..] => match Kind::try_from(*kind)? {
-            Kind::Head => part(bytes).map(|(body, after)| (Record::Head(body), after)),
-            Kind::Keep => part(bytes).map(|(body, after)| (Record::Keep(body), after)),
-            Kind::Split => part(bytes).map(|(body, after)| (Record::Split(body), after)),
-            Kind::New => part(bytes).map(|(body, after)| (Record::New(body), after)),
-            Kind::Leaf => part(bytes).map(|(body, after)| (Record::Leaf(body), after)),
-            Kind::None => Ok((Record::None, bytes)),
+        [kind, rest @ ..] => match Kind::try_from(*kind)? {
+            Kind::Head => part(rest).map(|(body, after)| (Record::Head(body), after)),
+            Kind::Keep => part(rest).map(|(body, after)| (Record::Keep(body), after)),
+            Kind::Split => part(rest).map(|(body, after)| (Record::Split(body), after)),
+            Kind::New => part(rest).map(|(body, after)| (Record::New(body), after)),
+            Kind::Leaf => part(rest).map(|(body, after)| (Record::Leaf(body), after)),
+            Kind::None => Ok((Record::None, rest)),
         },
     }
 }

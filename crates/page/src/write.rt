@@ -1,7 +1,8 @@
 //! Nodes written as records.
-ghost use Rattle.std.specs.Prelude.{◌≡◌, ◌+◌, true, length, map, nat_le, FitsSigned};
+ghost use Rattle.std.specs.Prelude.{◌≡◌, ◌+◌, ◌≤◌, true, ◌++◌, length, drop, map, nat_le, FitsSigned};
 ghost use Rattle.std.specs.Int.{w32};
-ghost use Rattle.page.specs.Records.{all_ten, cost_of, fits_at, holdable, record_length, record_of, ten, written_at};
+ghost use Rattle.page.specs.Pages.{WritesTree};
+ghost use Rattle.page.specs.Records.{all_holdable, all_ten, cost_of, cost_of_all, fits_at, holdable, list_answer, list_written, page_of, pasted, record_length, record_of, ten, written_at};
 ghost use Rattle.page.specs.Words.{bytes};
 
 use tree::kind::Kind;
@@ -76,6 +77,15 @@ pub fn put(node: &Node, slot: &mut [u8])
     }
 }
 
+/// Inner: writes the record of a node over the page from an offset on, where there is room for it.
+pub fn put_at(node: &Node, page: &mut [u8], offset: usize)
+    requires room { offset + cost_of node.now ≤ length page.old }
+    ensures left { page.new ≡ pasted offset (record_of node.now) page.old }
+    ensures numbers { holdable node.now ≡ true }
+{
+    put(node, &mut page[offset..offset + cost(node)]);
+}
+
 /// Whether so many bytes are there from an offset on.
 fn has_room(bytes: usize, offset: usize, cost: usize) -> bool
     ensures value { result ≡ nat_le (offset + cost) bytes }
@@ -90,10 +100,47 @@ pub fn write(node: &Node, page: &mut [u8], offset: usize) -> bool
     ensures said { result ≡ fits_at offset node.now page.old }
     ensures left { page.new ≡ written_at offset node.now page.old }
 {
-    let cost = cost(node);
-    if !has_room(page.len(), offset, cost) {
+    if !has_room(page.len(), offset, cost(node)) {
         return false;
     }
-    put(node, &mut page[offset..offset + cost]);
+    put_at(node, page, offset);
     true
+}
+
+/// How many bytes the records of a list of nodes take, if so many bytes are enough for them.
+fn length_within(nodes: &[Node], bytes: usize) -> Option<usize>
+    ensures value { result ≡ list_answer nodes.now bytes }
+{
+    // what is free goes down, so that no sum can pass the largest number
+    let mut free = bytes;
+    for node in nodes {
+        free = free.checked_sub(cost(node))?;
+    }
+    Some(bytes - free)
+}
+
+/// Writes the records of a list of nodes from the first byte on.
+fn put_all(nodes: &[Node], page: &mut [u8])
+    requires room { cost_of_all nodes.now ≤ length page.old }
+    ensures left { page.new ≡ page_of nodes.now ++ drop (cost_of_all nodes.now) page.old }
+    ensures numbers { all_holdable nodes.now ≡ true }
+{
+    let mut at = 0;
+    for node in nodes {
+        put_at(node, page, at);
+        at += cost(node);
+    }
+}
+
+// An `Option`, as `write` has a bool: no refusal has a number for a page that is too short.
+/// Writes the records of a list of nodes over the page from its first byte on, and answers how many bytes they take;
+/// none, and nothing is written, where the page is too short for them.
+pub fn write_list(nodes: &[Node], page: &mut [u8]) -> Option<usize>
+    ensures answer { result ≡ list_answer nodes.now (length page.old) }
+    ensures left { page.new ≡ list_written nodes.now page.old }
+    ensures law { WritesTree nodes.now page.new result }
+{
+    let length = length_within(nodes, page.len())?;
+    put_all(nodes, page);
+    Some(length)
 }

@@ -3,16 +3,17 @@ use Rattle.std.proofs.Common.{◌≡◌, ℕ, ◌+◌, ◌<◌, ◌≤◌, List,
 use Rattle.std.proofs.lemmas.List.{length-take-le}
 use Rattle.tree.specs.declared.node.Node.{Node}
 use Rattle.store.specs.Stores.{used}
-use Rattle.page.specs.Records.{page_of}
+use Rattle.page.specs.Records.{nodes_in, page_of}
 use Rattle.page_store.specs.Costs.{byte_cost}
-use Rattle.page_store.specs.Listed.{first_nodes, length_by}
+use Rattle.page_store.specs.Listed.{length_by}
 use Rattle.page_store.specs.PageStores.{offset_of}
 use Rattle.page_store.specs.declared.page_store.PageStore.{PageStore}
-use Rattle.page_store.proofs.Holding.{AllHoldable, all_from}
-use Rattle.page_store.proofs.Standing.{leads, length-page}
+use Rattle.page.proofs.Holding.{AllHoldable, all_from}
+use Rattle.page.proofs.Listing.{length-page}
+use Rattle.page_store.proofs.Standing.{leads}
 
 abbrev pub listed : PageStore → List Node
-listed s = first_nodes s.count (vec_items s.page)
+listed s = nodes_in s.count (vec_items s.page)
 
 pub all-held : (s : PageStore) → AllHoldable (listed s)
 all-held s = all_from (listed s) s.numbers

@@ -1,100 +1,50 @@
 -- Records that stand one after the other, read back.
-use Rattle.std.proofs.Common.{◌≡◌, ℕ, zero, suc, ◌+◌, ◌*◌, ◌<◌, ◌≤◌, ltb, ◌≢◌, List, [], ◌∷◌, ◌++◌, length, get_or, take, drop, set, Some, Ok, Err, sym, refl, ap, ◌∙◌, subst, ap₂, ⊎_elim, append_assoc, append-nil, arith, length-append, length-set, take-append-drop, Bor}
+use Rattle.std.proofs.Common.{◌≡◌, ℕ, zero, suc, ◌+◌, ◌<◌, ◌≤◌, ◌≢◌, List, [], ◌∷◌, ◌++◌, length, get_or, take, drop, set, Ok, Err, sym, refl, ap, ◌∙◌, subst, ap₂, ⊎_elim, append_assoc, arith, length-append, length-set, take-append-drop, Bor}
+use Rattle.std.proofs.lemmas.Grind.{flat_map-append}
 use Rattle.std.proofs.lemmas.List.{drop_at, drop_more, get_or-drop, get_or-set_other, get_or-set_same, length-take-le, take-append-le, take_at, take_more}
-use Rattle.std.proofs.lemmas.Bool.{cases_lt, cond-false, le-ltb}
+use Rattle.std.proofs.lemmas.Bool.{cases_lt}
 use Rattle.tree.specs.declared.node.Node.{Node}
 use Rattle.tree.specs.declared.node.Node.TheVariants.{Head, Keep, Split, New, Leaf, None}
 use Rattle.tree.specs.Kinds.{kind_of}
-use Rattle.store.specs.Stores.{used}
-use Rattle.page.specs.Records.{Kind, body_length, head, keep, leaf, new, node_of, none, one, opened, opened_as, page_of, pasted, record_of, split}
+use Rattle.page.specs.Records.{node_of, nodes_from, nodes_in, one, opened, page_of, pasted, record_of}
 use Rattle.page.specs.declared.record.Flaw.{Flaw}
 use Rattle.page.specs.declared.record.Record.{Record}
 use Rattle.page.specs.Ties.{Reads, body_in, kind_in}
-use Rattle.page.specs.Words.{all_bytes, bytes, forms, forms_bytes, words}
-use Rattle.page.proofs.Words.{form-of, forms-of, length-form, length-six, word_bytes}
 use Rattle.page_store.specs.Costs.{byte_cost}
-use Rattle.page_store.specs.Listed.{Indexed, and_those, first_nodes, length_by}
-use Rattle.page.proofs.Holding.{Holdable}
-use Rattle.page_store.proofs.Holding.{AllHoldable}
+use Rattle.page_store.specs.Listed.{Indexed, length_by}
+use Rattle.page.proofs.Holding.{AllHoldable, Holdable}
+use Rattle.page.proofs.Listing.{length-record, page-more}
+use Rattle.page.proofs.Regained.{node-back, some_bytes}
 use Rattle.page.proofs.Pasting.{take-pasted}
 
-body-opens : (k : Kind) (b rest : List ℕ) → length b ≡ body_length k → opened_as (Some k) (b ++ rest) ≡ one k b rest
-body-opens k b rest l =
-    let e : body_length k ≤ length (b ++ rest) = let a = length-append b rest in omega (arith, l, a) in
-    cond-false (ltb (length (b ++ rest)) (body_length k)) _ _ (le-ltb _ _ e) ∙ ap₂ (one k) (take_at b rest (body_length k) l) (drop_at b rest (body_length k) l)
-
--- the record of a node is opened as one whose node it is
-pub record-opens : (x : Node) (rest : List ℕ) → Holdable x → (k : Kind) × ((b : List ℕ) × ((opened (record_of x ++ rest) ≡ one k b rest) × (node_of k b ≡ x)))
-record-opens (Head n p) rest h = (head, (n ∷ p ∷ [], (body-opens head (n ∷ p ∷ []) rest refl, refl)))
-record-opens (Keep C) rest h =
-    (keep, (all_bytes C, (body-opens keep (all_bytes C) rest (length-form C h), ap Keep (ap (words 10) (sym (append-nil (all_bytes C))) ∙ form-of C [] h))))
-record-opens (Split C) rest h =
-    (split, (all_bytes C, (body-opens split (all_bytes C) rest (length-form C h), ap Split (ap (words 10) (sym (append-nil (all_bytes C))) ∙ form-of C [] h))))
-record-opens (New d T) rest h =
-    let b = bytes d ++ all_bytes T in
-    let l = length-form T h.1 in
-    (new, (b, (body-opens new b rest (omega (arith, l)), ap₂ New (word_bytes d (all_bytes T) h.0) (ap (words 10) (sym (append-nil (all_bytes T))) ∙ form-of T [] h.1))))
-record-opens (Leaf Cs) rest h =
-    let b = forms_bytes Cs in
-    let l = length-six Cs h.1 in
-    (leaf, (b, (body-opens leaf b rest (l ∙ ap (λ n. 40 * n) h.0), ap Leaf (ap₂ forms (sym h.0) (sym (append-nil b)) ∙ forms-of Cs [] h.1))))
-record-opens None rest h = (none, ([], (body-opens none [] rest refl, refl)))
-
--- a record has as many bytes as its node costs
-pub length-record : (x : Node) → Holdable x → length (record_of x) ≡ byte_cost (kind_of x)
-length-record (Head n p) h = refl
-length-record (Keep C) h = ap suc (length-form C h)
-length-record (Split C) h = ap suc (length-form C h)
-length-record (New d T) h = let l = length-form T h.1 in omega (arith, l)
-length-record (Leaf Cs) h = ap suc (length-six Cs h.1 ∙ ap (λ n. 40 * n) h.0)
-length-record None h = refl
-
 -- a page is read back
-pub page-back : (xs : List Node) (rest : List ℕ) → AllHoldable xs → first_nodes (length xs) (page_of xs ++ rest) ≡ xs
+pub page-back : (xs : List Node) (rest : List ℕ) → AllHoldable xs → nodes_in (length xs) (page_of xs ++ rest) ≡ xs
 page-back [] rest h = refl
 page-back (x ∷ xs) rest h =
-    let p = record-opens x (page_of xs ++ rest) h.0 in
-    ap (λ o. and_those o (first_nodes (length xs))) (ap opened (append_assoc (record_of x) (page_of xs) rest) ∙ p.1.1.0) ∙ ap₂ ◌∷◌ p.1.1.1 (page-back xs rest h.1)
+    let p = node-back x (page_of xs ++ rest) h.0 in
+    ap (nodes_from (nodes_in (length xs))) (ap opened (append_assoc (record_of x) (page_of xs) rest) ∙ p.1.1.0) ∙ ap₂ ◌∷◌ p.1.1.1 (page-back xs rest h.1)
 
 -- ---- pages by their nodes
-
-pub page-append : (xs ys : List Node) → page_of (xs ++ ys) ≡ page_of xs ++ page_of ys
-page-append [] ys = refl
-page-append (x ∷ xs) ys = ap (λ l. record_of x ++ l) (page-append xs ys) ∙ sym (append_assoc (record_of x) (page_of xs) (page_of ys))
 
 pub holdable-append : (xs : List Node) (x : Node) → AllHoldable xs → Holdable x → AllHoldable (xs ++ (x ∷ []))
 holdable-append [] x h p = (p, tt)
 holdable-append (y ∷ xs) x h p = (h.0, holdable-append xs x h.1 p)
 
--- its length is what its nodes cost
-pub length-page : (xs : List Node) → AllHoldable xs → length (page_of xs) ≡ used byte_cost xs
-length-page [] h = refl
-length-page (x ∷ xs) h = length-append (record_of x) (page_of xs) ∙ ap₂ ◌+◌ (length-record x h.0) (length-page xs h.1)
-
--- no record is empty
-one_byte : (x : Node) → 1 ≤ length (record_of x)
-one_byte (Head n p) = omega arith
-one_byte (Keep C) = omega arith
-one_byte (Split C) = omega arith
-one_byte (New d T) = omega arith
-one_byte (Leaf Cs) = omega arith
-one_byte None = omega arith
-
 pub count-page : (xs : List Node) → length xs ≤ length (page_of xs)
 count-page [] = omega arith
-count-page (x ∷ xs) = let a = length-append (record_of x) (page_of xs) in let b = one_byte x in let c = count-page xs in omega (arith, a, b, c)
+count-page (x ∷ xs) = let a = length-append (record_of x) (page_of xs) in let b = some_bytes x in let c = count-page xs in omega (arith, a, b, c)
 
 -- ---- the reader, at the record of a node
 
 pub read_back : (x : Node) (rest bs : List ℕ) (r : Record) (after : Bor (List ℕ)) → Holdable x → bs ≡ record_of x ++ rest → Reads (opened bs) (Ok (r, after)) → node_of (kind_in r) (body_in r) ≡ x
 read_back x rest bs r after h e reads =
-    let p = record-opens x rest h in
+    let p = node-back x rest h in
     let t : Reads (one p.0 p.1.0 rest) (Ok (r, after)) = subst (λ o. Reads o (Ok (r, after))) (ap opened e ∙ p.1.1.0) reads in
     ap₂ node_of t.0 t.1.0 ∙ p.1.1.1
 
 pub never-refused : (x : Node) (rest bs : List ℕ) (f : Flaw) → Holdable x → bs ≡ record_of x ++ rest → Reads (opened bs) (Err f) → ⊥
 never-refused x rest bs f h e reads =
-    let p = record-opens x rest h in
+    let p = node-back x rest h in
     subst (λ o. Reads o (Err f)) (ap opened e ∙ p.1.1.0) reads
 
 -- ---- where records stand
@@ -106,7 +56,7 @@ stands page n j xs d whole h =
     let a = page_of (take j xs) in
     let x = get_or xs j d in
     let more = page_of (drop (j + 1) xs) in
-    let split : page_of xs ≡ a ++ (record_of x ++ more) = ap page_of (sym (take-append-drop j xs)) ∙ page-append (take j xs) (drop j xs) ∙ ap (λ l. a ++ page_of l) (drop_more xs j d h) in
+    let split : page_of xs ≡ a ++ (record_of x ++ more) = ap page_of (sym (take-append-drop j xs)) ∙ flat_map-append record_of (take j xs) (drop j xs) ∙ ap (λ l. a ++ page_of l) (drop_more xs j d h) in
     let all : page ≡ a ++ (record_of x ++ (more ++ drop n page)) = sym (take-append-drop n page) ∙ ap (λ l. l ++ drop n page) (whole ∙ split)
     ∙ append_assoc a (record_of x ++ more) (drop n page) ∙ ap (λ l. a ++ l) (append_assoc (record_of x) more (drop n page)) in
     ap (drop (length a)) all ∙ drop_at a (record_of x ++ (more ++ drop n page)) (length a) refl
@@ -115,12 +65,11 @@ stands page n j xs d whole h =
 pub offset-more : (j : ℕ) (xs : List Node) (d : Node) → j < length xs → length (page_of (take (j + 1) xs)) ≡ length (page_of (take j xs)) + length (record_of (get_or xs j d))
 offset-more j xs d h =
     let x = get_or xs j d in
-    ap (λ l. length (page_of l)) (take_more xs j d h) ∙ ap length (page-append (take j xs) (x ∷ [])) ∙ length-append (page_of (take j xs)) (record_of x ++ [])
-    ∙ ap (λ l. length (page_of (take j xs)) + length l) (append-nil (record_of x))
+    ap (λ l. length (page_of l)) (take_more xs j d h) ∙ ap length (page-more (take j xs) x) ∙ length-append (page_of (take j xs)) (record_of x)
 
 pub offset-within : (j : ℕ) (xs : List Node) → length (page_of (take j xs)) ≤ length (page_of xs)
 offset-within j xs =
-    let e = ap length (ap page_of (sym (take-append-drop j xs)) ∙ page-append (take j xs) (drop j xs)) in
+    let e = ap length (ap page_of (sym (take-append-drop j xs)) ∙ flat_map-append record_of (take j xs) (drop j xs)) in
     let a = length-append (page_of (take j xs)) (page_of (drop j xs)) in
     omega (arith, e, a)
 
@@ -145,16 +94,16 @@ pub put_whole : (page after : List ℕ) (n : ℕ) (xs : List Node) (x : Node) �
 put_whole page after n xs x h room whole wrote =
     let l = length-record x h in
     ap₂ (λ k p. take (n + k) p) (sym l) wrote ∙ take-pasted n (record_of x) page (omega arith) ∙ ap (λ l. l ++ record_of x) whole
-    ∙ ap (λ l. page_of xs ++ l) (sym (append-nil (record_of x))) ∙ sym (page-append xs (x ∷ []))
+    ∙ sym (page-more xs x)
 
 pub put-nodes : (page after : List ℕ) (n count : ℕ) (xs : List Node) (x : Node) → AllHoldable xs → Holdable x → length xs ≡ count → n + byte_cost (kind_of x) ≤ length page → take n page ≡ page_of xs →
-    after ≡ pasted n (record_of x) page → first_nodes (count + 1) after ≡ xs ++ (x ∷ [])
+    after ≡ pasted n (record_of x) page → nodes_in (count + 1) after ≡ xs ++ (x ∷ [])
 put-nodes page after n count xs x all h len room whole wrote =
     let ys = xs ++ (x ∷ []) in
     let m = n + byte_cost (kind_of x) in
     let l : count + 1 ≡ length ys = let a = length-append xs (x ∷ []) in omega (arith, a, len) in
     let w : after ≡ page_of ys ++ drop m after = sym (take-append-drop m after) ∙ ap (λ l. l ++ drop m after) (put_whole page after n xs x h room whole wrote) in
-    ap₂ first_nodes l w ∙ page-back ys (drop m after) (holdable-append xs x all h)
+    ap₂ nodes_in l w ∙ page-back ys (drop m after) (holdable-append xs x all h)
 
 pub put-index : (page index : List ℕ) (n count : ℕ) (xs : List Node) (x : Node) → length xs ≡ count → n ≤ length page → take n page ≡ page_of xs → Indexed index xs → Indexed (set index count n) (xs ++ (x ∷ []))
 put-index page index n count xs x len room whole old k h i =
@@ -191,6 +140,6 @@ leads page n j i xs room whole all h is =
     let b : length_by (get_or page i 0) ≡ length (record_of x) = ap length_by g ∙ length-by x rest (holdable-at xs j None h all) in
     let more = offset-more j xs None h in
     let within = offset-within (j + 1) xs in
-    let one = one_byte x in
+    let one = some_bytes x in
     let e : length (page_of xs) ≡ n = ap length (sym whole) ∙ length-take-le n page room in
     (omega arith, (omega arith, omega arith))

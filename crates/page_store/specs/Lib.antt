@@ -1,4 +1,3 @@
 pub mod Costs
 pub mod Listed
 pub mod PageStores
-pub mod Writes

@@ -1,16 +1,7 @@
--- The nodes whose records stand first in a page.
-use Rattle.std.specs.Prelude.{◌≡◌, ℕ, zero, suc, ◌<◌, List, [], ◌∷◌, length, take, Some, None, Option, slice_index}
+-- Where the records of the listed nodes stand in a page.
+use Rattle.std.specs.Prelude.{◌≡◌, ℕ, ◌<◌, List, length, take, Some, None, Option, slice_index}
 use Rattle.tree.specs.declared.node.Node.{Node}
-use Rattle.page.specs.Records.{Kind, Opened, flawed, kind_of, node_of, one, opened, page_of, record_length}
-
-abbrev pub and_those : Opened → (List ℕ → List Node) → List Node
-and_those (one k b rest) more = node_of k b ∷ more rest
-and_those (flawed e) more = []
-
--- the nodes of the first records, as many as there are up to a count
-abbrev pub first_nodes : ℕ → List ℕ → List Node
-first_nodes zero bs = []
-first_nodes (suc n) bs = and_those (opened bs) (first_nodes n)
+use Rattle.page.specs.Records.{Kind, kind_of, page_of, record_length}
 
 -- the index has the offset of each listed node that it has a place for
 abbrev pub Indexed : List ℕ → List Node → Type 0

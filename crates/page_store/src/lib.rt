@@ -3,4 +3,3 @@
 
 pub mod page_store;
 pub mod read;
-pub mod write;

@@ -1,8 +1,7 @@
 //! A store over a page of bytes.
 ghost use Rattle.std.specs.Prelude.{◌≡◌, ◌≤◌, true, length, take, vec_len};
-ghost use Rattle.page.specs.Records.{page_of};
-ghost use Rattle.page_store.specs.Listed.{Indexed, first_nodes};
-ghost use Rattle.page_store.specs.Writes.{all_holdable};
+ghost use Rattle.page.specs.Records.{all_holdable, nodes_in, page_of};
+ghost use Rattle.page_store.specs.Listed.{Indexed};
 
 use store::gate::{Draft, Gate};
 
@@ -25,10 +24,10 @@ pub struct PageStore {
     used: usize,
     gate: Gate<Pages>,
     ghost within: { used ≤ vec_len page },
-    ghost whole: { take used page.items ≡ page_of (first_nodes count page.items) },
-    ghost all: { length (first_nodes count page.items) ≡ count },
-    ghost numbers: { all_holdable (first_nodes count page.items) ≡ true },
-    ghost indexed: { Indexed index.items (first_nodes count page.items) },
+    ghost whole: { take used page.items ≡ page_of (nodes_in count page.items) },
+    ghost all: { length (nodes_in count page.items) ≡ count },
+    ghost numbers: { all_holdable (nodes_in count page.items) ≡ true },
+    ghost indexed: { Indexed index.items (nodes_in count page.items) },
 }
 
 /// A draft of a page store.

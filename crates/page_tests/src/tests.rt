@@ -2,51 +2,64 @@
 use base::refusal::Refusal;
 use page::back::node_at;
 use page::check::check;
-use page::write::{cost, write};
+use page::write::{cost, write, write_list};
 use std::alloc::{AllocError, AllocFailed, Global};
 use std::array;
 use std::process::Abort;
 use tree::node::{Node, NodeForm};
 use worked_tree::{WORKED, form};
 
-/// The nodes written one after the other from the start of the page; how many bytes they took.
-fn put_all(nodes: &[Node], page: &mut [u8]) -> usize {
-    let mut at: usize = 0;
-    for node in nodes {
-        if !write(node, page, at) {
-            return at;
-        }
-        at = at.wrapping_add(cost(node));
-    }
-    at
-}
-
+/// The page of the worked tree.
 fn half_page() -> [u8; 571] {
     let mut page = [0; 571];
-    let _ = put_all(&WORKED, &mut page);
+    let _ = write_list(&WORKED, &mut page);
     page
 }
 
-/// The answer to a page that these nodes begin, with a stretch of zeros up to 600 bytes cut off behind them.
-fn answer(nodes: &[Node]) -> Result<usize, Refusal> {
+/// The answer to the page of these nodes, or none if it has more than 600 bytes.
+fn answer(nodes: &[Node]) -> Option<Result<usize, Refusal>> {
     let mut page = [0; 600];
-    let end = put_all(nodes, &mut page);
-    if end <= 600 {
-        check(&page[..end])
-    } else {
-        Ok(0)
-    }
+    let end = write_list(nodes, &mut page)?;
+    page.get(..end).map(check)
+}
+
+/// Compares the answer with the one that is wanted.
+fn answers(rt: &impl Abort, nodes: &[Node], want: Result<usize, Refusal>) {
+    assert_eq!(rt; answer(nodes), Some(want));
 }
 
 #[test]
 fn the_worked_tree_takes_571_bytes_and_reads_back(rt: HostRuntime) {
-    let mut page = [0; 571];
-    assert_eq!(rt; put_all(&WORKED, &mut page), 571);
-    assert_eq!(rt; check(&page), Ok(5));
+    let mut page = [9; 572];
+    assert_eq!(rt; write_list(&WORKED, &mut page), Some(571));
+    assert_eq!(rt; page[571], 9);
+    assert_eq!(rt; check(&page[..571]), Ok(5));
     for (i, node) in WORKED.iter().enumerate() {
         assert_eq!(rt; node_at(&page, i), *node);
     }
     assert_eq!(rt; node_at(&page, 5), Node::None);
+}
+
+#[test]
+fn a_page_too_short_is_left_alone(rt: HostRuntime) {
+    let mut page = [9; 570];
+    assert_eq!(rt; write_list(&WORKED, &mut page), None);
+    assert_eq!(rt; page, [9; 570]);
+    assert_eq!(rt; write(&WORKED[1], &mut page, 530), false);
+    assert_eq!(rt; page, [9; 570]);
+    assert_eq!(rt; write_list(&[], &mut page[..0]), Some(0));
+}
+
+#[test]
+fn one_record_is_written_at_its_offset(rt: HostRuntime) {
+    let mut page = half_page();
+    assert_eq!(rt; cost(&WORKED[1]), 41);
+    assert_eq!(rt; write(&Node::Keep(form(1, 0, -2)), &mut page, 3), true);
+    assert_eq!(rt; page[2], 1);
+    assert_eq!(rt; &page[3..8], [2, 0, 0, 0, 1].as_slice());
+    assert_eq!(rt; &page[40..45], [255, 255, 255, 254, 5].as_slice());
+    assert_eq!(rt; node_at(&page, 1), Node::Keep(form(1, 0, -2)));
+    assert_eq!(rt; node_at(&page, 2), WORKED[2]);
 }
 
 #[test]
@@ -58,31 +71,51 @@ fn each_refusal_carries_its_offset(rt: HostRuntime) {
         d: 2,
         form: form(1, 0, 0),
     };
-    assert_eq!(rt; answer(&[]), Err(Refusal::PageLength { offset: 0 }));
-    assert_eq!(rt; answer(&[keep]), Err(Refusal::PageKind { offset: 0 }));
-    assert_eq!(rt; answer(&[head]), Err(Refusal::PageLength { offset: 3 }));
+    answers(&rt, &[], Err(Refusal::PageLength { offset: 0 }));
+    answers(&rt, &[keep], Err(Refusal::PageKind { offset: 0 }));
+    answers(&rt, &[head], Err(Refusal::PageLength { offset: 3 }));
+    let rest = [head, Node::None, Node::None];
+    answers(&rt, &rest, Err(Refusal::PageLength { offset: 4 }));
+    answers(&rt, &[keep, keep], Err(Refusal::PageKind { offset: 0 }));
+    let nine = [head, keep, keep, keep, keep, keep, keep, keep, keep, keep];
+    answers(&rt, &nine, Err(Refusal::PageKind { offset: 331 }));
+    let seven = [Node::Head { n: 7, p: 0 }, Node::None];
+    answers(&rt, &seven, Err(Refusal::PageNumber { offset: 0 }));
+    let unused = [head, new, Node::None];
+    answers(&rt, &unused, Err(Refusal::PageNumber { offset: 3 }));
+    let mut deep = [split; 14];
+    deep[0] = head;
+    answers(&rt, &deep, Err(Refusal::PageDepth { offset: 495 }));
+    let mut sixth = [new; 7];
+    sixth[0] = Node::Head { n: 1, p: 1 };
+    answers(&rt, &sixth, Err(Refusal::PageDepth { offset: 228 }));
+}
+
+#[test]
+fn the_kind_comes_before_the_body_and_the_body_before_its_numbers(rt: HostRuntime) {
+    assert_eq!(rt; check(&[3]), Err(Refusal::PageKind { offset: 0 }));
+    assert_eq!(rt; check(&[1, 1]), Err(Refusal::PageLength { offset: 0 }));
     assert_eq!(rt;
-        answer(&[head, Node::None, Node::None]),
-        Err(Refusal::PageLength { offset: 4 })
-    );
-    assert_eq!(rt; answer(&[keep, keep]), Err(Refusal::PageKind { offset: 0 }));
-    assert_eq!(rt;
-        answer(&[head, keep, keep, keep, keep, keep, keep, keep, keep, keep]),
-        Err(Refusal::PageKind { offset: 331 })
-    );
-    assert_eq!(rt;
-        answer(&[Node::Head { n: 7, p: 0 }, Node::None]),
+        check(&[1, 1, 5, 7]),
         Err(Refusal::PageNumber { offset: 0 })
     );
+    assert_eq!(rt; check(&[1, 1, 4, 7]), Err(Refusal::PageKind { offset: 3 }));
     assert_eq!(rt;
-        answer(&[head, new, Node::None]),
-        Err(Refusal::PageNumber { offset: 3 })
+        check(&[1, 1, 4, 3]),
+        Err(Refusal::PageLength { offset: 3 })
     );
     assert_eq!(rt;
-        answer(&[
-            head, split, split, split, split, split, split, split, split, split, split, split,
-            split, split,
-        ],),
+        check(&[1, 1, 4, 3, 255]),
+        Err(Refusal::PageLength { offset: 3 })
+    );
+    let mut page = [0; 600];
+    let head = Node::Head { n: 1, p: 0 };
+    let mut deep = [Node::Split(form(0, 0, 0)); 14];
+    deep[0] = head;
+    let _ = write_list(&deep, &mut page);
+    // the thirteenth split, with none of its body
+    assert_eq!(rt;
+        check(&page[..496]),
         Err(Refusal::PageDepth { offset: 495 })
     );
 }

@@ -1,6 +1,7 @@
 -- What code over any store needs of its meaning: sums of costs, and what a put and an install answer and leave in each case.
-use Rattle.std.proofs.Common.{◌≡◌, ℕ, ◌+◌, ◌<◌, ◌≤◌, Bool, true, false, List, [], ◌∷◌, ◌++◌, length, get_or, take, drop, Ok, Err, sym, refl, ap, ◌∙◌, ⊎_elim, arith, take-append-drop}
+use Rattle.std.proofs.Common.{◌≡◌, ℕ, ◌+◌, ◌<◌, ◌≤◌, Bool, true, false, List, [], ◌∷◌, ◌++◌, length, get_or, take, Ok, Err, sym, refl, ap, ◌∙◌, ⊎_elim, arith}
 use Rattle.std.proofs.lemmas.List.{take_more}
+use Rattle.std.proofs.lemmas.List.Sums.{sum_by-cons, sum_by-take-le, sum_by_push}
 use Rattle.std.proofs.lemmas.Bool.{lt-ltb, le-ltb, le-leb, lt-leb, cases_lt}
 use Rattle.base.specs.declared.refusal.Refusal.TheVariants.{StoreFull}
 use Rattle.tree.specs.Kinds.{kind_of}
@@ -8,28 +9,18 @@ use Rattle.tree.specs.declared.node.Node.{Node}
 use Rattle.tree.specs.declared.kind.Kind.{Kind}
 use Rattle.store.specs.Stores.{Meaning, used, free, holding, passed, put_answer, after_put, install_answer, installed}
 
-pub used-append : (cost : Kind → ℕ) (xs ys : List Node) → used cost (xs ++ ys) ≡ used cost xs + used cost ys
-used-append cost [] ys = omega arith
-used-append cost (x ∷ xs) ys = let e = used-append cost xs ys in omega arith
-
 -- the first i nodes, and one more, which costs u
 pub used-more : (cost : Kind → ℕ) (xs : List Node) (i u : ℕ) (d : Node) → i < length xs → u ≡ cost (kind_of (get_or xs i d)) → used cost (take (i + 1) xs) ≡ used cost (take i xs) + u
-used-more cost xs i u d h is =
-    let a = ap (used cost) (take_more xs i d h) in
-    let b = used-append cost (take i xs) (get_or xs i d ∷ []) in
-    omega arith
+used-more cost xs i u d h is = ap (used cost) (take_more xs i d h) ∙ sum_by_push (λ x. cost (kind_of x)) (take i xs) (get_or xs i d) ∙ ap (λ k. used cost (take i xs) + k) (sym is)
 
 -- a part costs no more than the whole
 pub used-part : (cost : Kind → ℕ) (xs : List Node) (i : ℕ) → used cost (take i xs) ≤ used cost xs
-used-part cost xs i =
-    let whole = ap (used cost) (take-append-drop i xs) in
-    let parts = used-append cost (take i xs) (drop i xs) in
-    omega arith
+used-part cost xs i = sum_by-take-le (λ x. cost (kind_of x)) xs i
 
 -- where each node costs one unit, a list costs its length
 pub used-one : (xs : List Node) → used (λ _. 1) xs ≡ length xs
 used-one [] = refl
-used-one (x ∷ xs) = let e = used-one xs in omega arith
+used-one (x ∷ xs) = let cons = sum_by-cons (λ _. 1) x xs in let rest = used-one xs in omega arith
 
 -- what lets in is open
 pub passed-open : (b : Bool) → passed b ≡ Ok tt → b ≡ true

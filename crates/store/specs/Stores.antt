@@ -1,5 +1,6 @@
 -- What a store stands for, and what each call answers and leaves.
-use Rattle.std.specs.Prelude.{ℕ, ◌+◌, ◌-◌, Bool, true, false, cond, List, [], ◌∷◌, ◌++◌, Ok, Err, Result, nat_le, nat_lt, slice_index_or}
+use Rattle.std.specs.Prelude.{ℕ, ◌-◌, Bool, true, false, cond, List, [], ◌∷◌, ◌++◌, Ok, Err, Result, nat_le, nat_lt, slice_index_or}
+use Rattle.std.specs.List.{sum_by}
 use Rattle.base.specs.declared.refusal.Refusal.{Refusal}
 use Rattle.base.specs.declared.refusal.Refusal.TheVariants.{StoreFull, StoreClosed}
 use Rattle.tree.specs.Kinds.{kind_of}
@@ -24,8 +25,7 @@ holding m xs b = record { nodes = xs; is_open = b; capacity = m.capacity; cost =
 
 -- the units that a list of nodes costs
 abbrev pub used : (Kind → ℕ) → List Node → ℕ
-used cost [] = 0
-used cost (x ∷ xs) = cost (kind_of x) + used cost xs
+used cost xs = sum_by (λ x. cost (kind_of x)) xs
 
 abbrev pub free : Meaning → ℕ
 free m = m.capacity - used m.cost m.nodes

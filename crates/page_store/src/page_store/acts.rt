@@ -8,9 +8,8 @@ ghost use Rattle.tree.specs.Kinds.{kind_of};
 
 use super::{PageDraft, PageStore, Pages};
 use crate::read::{length_of, node_from};
-use crate::write::write_record;
 use base::refusal::Refusal;
-use page::write::record_length;
+use page::write::{put_at, record_length};
 use store::gate::Gate;
 use store::store::Store;
 use tree::kind::Kind;
@@ -77,7 +76,7 @@ fn write(page: &mut Vec<u8>, at: usize, node: &Node)
     ensures size { vec_len page.new ≡ vec_len page.old }
     ensures numbers { holdable node.now ≡ true }
 {
-    write_record(page.as_mut_slice(), at, node);
+    put_at(node, page.as_mut_slice(), at);
 }
 
 impl Store for PageStore {

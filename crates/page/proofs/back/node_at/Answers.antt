@@ -1,11 +1,11 @@
-use Rattle.std.proofs.Common.{length, get_or, ap, ◌∙◌, arith}
+use Rattle.std.proofs.Common.{◌-◌, length, get_or, ap, ◌∙◌, arith}
 use Rattle.tree.specs.declared.node.Node.TheVariants.{None as Blank}
 use Rattle.page.proofs.Regained.{arrived, page-back, ran_out, went_on}
 use Rattle.page.proofs.back.node_at.Goals as goal
 
 pub returns-in_default : goal.returns-in_default
 returns-in_default c =
-    let e = ran_out _ _ _ _ _ c.in_default.ensures.reads c.loop.invariant.1 in
+    let e = ran_out (length c.args.page.now - c.loop.counter) (c.args.i - c.loop.counter) c.loop.rest.now c.in_default.field-0 _ c.in_default.ensures.reads c.loop.invariant.1 in
     record { value = e; law = λ w i. e ∙ ap (λ xs. get_or xs c.args.i Blank) (page-back c.args.page.now w i) }
 
 pub loop-preserved : goal.loop-preserved
@@ -14,7 +14,7 @@ loop-preserved c =
 
 pub returns-in-Err : goal.returns-in-Err
 returns-in-Err c =
-    let e = ran_out _ _ _ _ _ c.in-Err.ensures.reads c.loop.invariant.1 in
+    let e = ran_out (length c.args.page.now - c.loop.counter) (c.args.i - c.loop.counter) c.loop.rest.now c.in-Err.field-0 _ c.in-Err.ensures.reads c.loop.invariant.1 in
     record { value = e; law = λ w i. e ∙ ap (λ xs. get_or xs c.args.i Blank) (page-back c.args.page.now w i) }
 
 pub returns-in-Ok-read : goal.returns-in-Ok-read

@@ -1,13 +1,11 @@
 use Rattle.std.proofs.Common.{◌≡◌, ◌+◌, ◌≤◌, true, [], ◌∷◌, ◌++◌, length, take, vec_items, sym, ap, ◌∙◌, subst, arith, length-append}
 use Rattle.tree.specs.Kinds.{kind_of}
-use Rattle.page.specs.Records.{page_of}
+use Rattle.page.specs.Records.{all_holdable, nodes_in, page_of}
 use Rattle.store.proofs.Rooms.{passed-open, put-fits, put_full, same-meaning}
 use Rattle.page_store.specs.Costs.{byte_cost}
-use Rattle.page_store.specs.Listed.{Indexed, first_nodes}
+use Rattle.page_store.specs.Listed.{Indexed}
 use Rattle.page_store.specs.PageStores.{meaning_of}
-use Rattle.page_store.specs.Writes.{all_holdable}
-use Rattle.page.proofs.Holding.{holdable-from}
-use Rattle.page_store.proofs.Holding.{all-to}
+use Rattle.page.proofs.Holding.{all-to, holdable-from}
 use Rattle.page_store.proofs.Kept.{all-held, length-listed, listed, used-is}
 use Rattle.page_store.proofs.Standing.{cost-some, count-page, holdable-append, put-index, put-nodes, put_whole}
 use Rattle.page_store.proofs.page_store.acts.PageStoreStore.put.Goals as goal
@@ -45,7 +43,7 @@ invariant_of-self c =
     let hold = holdable-from x c.write.ensures.numbers in
     let all = all-held s in
     let w = put_whole page after s.used xs x hold room s.whole c.write.ensures.left in
-    let e : first_nodes (s.count + 1) after ≡ xs ++ (x ∷ []) = put-nodes page after s.used s.count xs x all hold s.all room s.whole c.write.ensures.left in
+    let e : nodes_in (s.count + 1) after ≡ xs ++ (x ∷ []) = put-nodes page after s.used s.count xs x all hold s.all room s.whole c.write.ensures.left in
     let size = c.write.ensures.size in
     let len : length (xs ++ (x ∷ [])) ≡ s.count + 1 = length-append xs (x ∷ []) ∙ ap (λ n. n + 1) s.all in
     let i : Indexed (vec_items c.note.new.index) (xs ++ (x ∷ [])) =
