@@ -6,7 +6,7 @@ use Rattle.base.specs.Forms.{dot}
 use Rattle.algebra.specs.Lists.{NonNeg, column, plus, products, scaled}
 use Rattle.algebra.specs.Orders.{LexNN}
 use Rattle.algebra.specs.Laws.{ColumnsCombine}
-use Rattle.algebra.proofs.Dots.{dot-nil}
+use Rattle.base.proofs.Values.{dot-nil}
 use Rattle.algebra.proofs.Lex.{lex-none, lex-plus, lex-scaled}
 use Rattle.algebra.proofs.Ring.{◌⊕◌, ◌⊗◌, num, ring}
 

@@ -1,14 +1,11 @@
 -- Products of lists: linear in each, and what a change at one place does.
 use Rattle.std.proofs.Common.{◌≡◌, ℕ, zero, suc, ◌<◌, List, [], ◌∷◌, ◌++◌, map, length, take, drop, set, ℤ, pos, ◌+ℤ◌, ◌-ℤ◌, ◌*ℤ◌, neg_ℤ, sym, refl, ap, ◌∙◌, arith}
-use Rattle.base.specs.Numbers.{at}
+use Rattle.base.specs.Numbers.{at, zeros}
 use Rattle.base.specs.Forms.{dot}
-use Rattle.algebra.specs.Lists.{plus, scaled, zeros}
+use Rattle.base.proofs.Values.{dot-nil}
+use Rattle.algebra.specs.Lists.{plus, scaled}
 use Rattle.algebra.specs.Laws.{DotLinear}
 use Rattle.algebra.proofs.Ring.{◌⊕◌, ◌⊖◌, ◌⊗◌, num, ring, ⊝◌}
-
-pub dot-nil : (xs : List ℤ) → dot xs [] ≡ pos 0
-dot-nil [] = refl
-dot-nil (x ∷ xs) = refl
 
 pub dot-comm : (xs ys : List ℤ) → dot xs ys ≡ dot ys xs
 dot-comm [] ys = sym (dot-nil ys)
@@ -82,11 +79,6 @@ set-dot xs ys j v h =
 pub length-zeros : (n : ℕ) → length (zeros n) ≡ n
 length-zeros zero = refl
 length-zeros (suc n) = ap suc (length-zeros n)
-
-pub at-zeros : (n k : ℕ) → at (zeros n) k ≡ pos 0
-at-zeros zero k = refl
-at-zeros (suc n) zero = refl
-at-zeros (suc n) (suc k) = at-zeros n k
 
 pub dot-zeros : (n : ℕ) (xs : List ℤ) → dot xs (zeros n) ≡ pos 0
 dot-zeros zero xs = dot-nil xs

@@ -73,12 +73,6 @@ nonneg-mul (pos m) (pos n) h k = omega (arith, ints)
 nonneg-mul (pos m) (negsuc n) h k = absurd (omega (arith, ints))
 nonneg-mul (negsuc m) b h k = absurd (omega (arith, ints))
 
-pub pos-mul : (a b : ℤ) → pos 0 <ℤ a → pos 0 <ℤ b → pos 0 <ℤ (a *ℤ b)
-pos-mul a b h k = rw (Zmul a) at (lt-mul a (pos 0) b h k)
-  where
-    Zmul : (a : ℤ) → a *ℤ pos 0 ≡ pos 0
-    Zmul a = omega (arith, ints)
-
 pub mul_left_comm : (a b c : ℤ) → a *ℤ (b *ℤ c) ≡ b *ℤ (a *ℤ c)
 mul_left_comm a b c = sym (*ℤ-assoc a b c) ∙ ap (λ x. x *ℤ c) (*ℤ_comm a b) ∙ *ℤ-assoc b a c
 

@@ -4,7 +4,7 @@ use borrow.Author.Differences.{ints}
 use Rattle.std.proofs.lemmas.Int.{by_lt_z}
 use Rattle.algebra.specs.Lists.{plus, scaled}
 use Rattle.algebra.specs.Orders.{LexLe, LexNN}
-use Rattle.algebra.proofs.Integers.{pos-mul}
+use Rattle.base.proofs.Products.{mul-above}
 use Rattle.algebra.proofs.Ring.{◌⊗◌, num, ring}
 
 -- ---- lists that are lexicographically nonnegative: sums and multiples
@@ -28,7 +28,7 @@ lex-above g [] h p = tt
 lex-above g (x ∷ xs) h p = go (lex-above g xs h) p
   where
     go : (LexNN xs → LexNN (scaled g xs)) → LexNN (x ∷ xs) → LexNN ((g *ℤ x) ∷ scaled g xs)
-    go ih (inl a) = inl (pos-mul g x h a)
+    go ih (inl a) = inl (mul-above g x h a)
     go ih (inr a) = inr (rw a.0 (ring 1 (λ x. (x ⊗ num (pos 0), num (pos 0))) refl g), ih a.1)
 
 pub lex-scaled : (g : ℤ) (xs : List ℤ) → pos 0 ≤ℤ g → LexNN xs → LexNN (scaled g xs)

@@ -1,9 +1,9 @@
 -- Natural points, and the sign of a product with one.
 use Rattle.std.proofs.Common.{◌≡◌, ℕ, zero, suc, ◌<◌, List, [], ◌∷◌, ◌++◌, map, length, set, ℤ, pos, negsuc, ◌+ℤ◌, ◌*ℤ◌, nat_abs, ◌≤ℤ◌, refl, ap, arith}
 use borrow.Author.Differences.{ints}
-use Rattle.base.specs.Numbers.{at}
+use Rattle.base.specs.Numbers.{at, zeros}
 use Rattle.base.specs.Forms.{dot}
-use Rattle.algebra.specs.Lists.{NonNeg, NonPos, zeros}
+use Rattle.algebra.specs.Lists.{NonNeg, NonPos}
 use Rattle.algebra.proofs.Integers.{le-mul, nonneg-mul}
 use Rattle.algebra.proofs.Ring.{◌⊕◌, ◌⊗◌, num}
 use Rattle.algebra.proofs.Orders.{given_le, goal_le, order_from}

@@ -1,8 +1,10 @@
 -- Polynomials over ℤ in a normal form, so that equal ones are the same.
-use Rattle.std.proofs.Common.{◌≡◌, ℕ, zero, suc, Bool, true, false, cond, eqb, ltb, List, ℤ, pos, negsuc, ◌+ℤ◌, ◌*ℤ◌, sym, refl, ◌∙◌, eqb-true}
+use Rattle.std.proofs.Common.{◌≡◌, ℕ, Bool, true, false, cond, eqb, ltb, List, ℤ, pos, ◌+ℤ◌, ◌*ℤ◌, sym, refl, ◌∙◌, eqb-true}
 use Prim.Native.Nat.{compare, Ordering}
 use lib.IntN.{zero-*ℤ, *ℤ-zero, +ℤ_idl, +ℤ_assoc}
 use Rattle.base.specs.Numbers.{at}
+use Rattle.base.specs.Numbers.{is_zero}
+use Rattle.base.proofs.Zeros.{is_zero-is}
 use Rattle.algebra.proofs.Integers.{*ℤ-assoc, dist-r, one-l, ring-sort}
 
 infixr 8 ◌·◌
@@ -76,16 +78,6 @@ mul_m (x · m) n = ins_m x (mul_m m n)
 mul_m-is : (ρ : List ℤ) (m n : Mono) → eval_m ρ (mul_m m n) ≡ eval_m ρ m *ℤ eval_m ρ n
 mul_m-is ρ unit n = sym (one-l (eval_m ρ n))
 mul_m-is ρ (x · m) n = ins_m-is ρ x (mul_m m n) ∙ rw (mul_m-is ρ m n) (sym (*ℤ-assoc (at ρ x) (eval_m ρ m) (eval_m ρ n)))
-
-abbrev pub is_zero : ℤ → Bool
-is_zero (pos zero) = true
-is_zero (pos (suc n)) = false
-is_zero (negsuc n) = false
-
-is_zero-is : (c : ℤ) → is_zero c ≡ true → c ≡ pos 0
-is_zero-is (pos zero) e = refl
-is_zero-is (pos (suc n)) e = cc
-is_zero-is (negsuc n) e = cc
 
 -- a term in front, unless its factor is 0
 abbrev pub front : ℤ → Mono → Poly → Poly

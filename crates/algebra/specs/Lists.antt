@@ -1,5 +1,5 @@
 -- Lists of whole numbers as vectors, and lists of rows as matrices.
-use Rattle.std.specs.Prelude.{ℕ, List, [], ◌∷◌, replicate, ℤ, pos, ◌+ℤ◌, ◌*ℤ◌, ◌≤ℤ◌}
+use Rattle.std.specs.Prelude.{ℕ, List, [], ◌∷◌, ℤ, pos, ◌+ℤ◌, ◌*ℤ◌, ◌≤ℤ◌}
 use Rattle.base.specs.Numbers.{at}
 use Rattle.base.specs.Forms.{dot}
 
@@ -13,9 +13,6 @@ abbrev pub plus : List ℤ → List ℤ → List ℤ
 plus [] ys = []
 plus (x ∷ xs) [] = []
 plus (x ∷ xs) (y ∷ ys) = (x +ℤ y) ∷ plus xs ys
-
-abbrev pub zeros : ℕ → List ℤ
-zeros n = replicate n (pos 0)
 
 -- a natural point: no number below 0
 abbrev pub NonNeg : List ℤ → Type 0

@@ -5,3 +5,4 @@ pub mod Values
 pub mod Gcds
 pub mod Divisors
 pub mod Ranges
+pub mod Zeros

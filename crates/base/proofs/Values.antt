@@ -19,7 +19,7 @@ value-is C ρ e f = constant-first C ρ (omega arith) ∙ ap (λ n. at C n +ℤ 
 pub dot-more : (C ρ : List ℤ) (k : ℕ) → k < length C → k < length ρ → dot (drop k C) (drop k ρ) ≡ (at C k *ℤ at ρ k) +ℤ dot (drop (k + 1) C) (drop (k + 1) ρ)
 dot-more C ρ k h l = rw (drop_more C k (pos 0) h, drop_more ρ k (pos 0) l)
 
-dot-nil : (C : List ℤ) → dot C [] ≡ pos 0
+pub dot-nil : (C : List ℤ) → dot C [] ≡ pos 0
 dot-nil [] = refl
 dot-nil (x ∷ xs) = refl
 

@@ -1,10 +1,23 @@
 -- Whole numbers: division that rounds down, greatest common divisors, the range.
-use Rattle.std.specs.Prelude.{◌≡◌, ℕ, zero, suc, ◌-◌, ◌/◌, ◌%◌, ◌^◌, ◌≤◌, Bool, List, [], ◌∷◌, ℤ, pos, negsuc, ◌*ℤ◌, int_div, nat_le, slice_index_or, unsigned_abs}
+use Rattle.std.specs.Prelude.{◌≡◌, ℕ, zero, suc, ◌-◌, ◌/◌, ◌%◌, ◌^◌, ◌≤◌, Bool, true, false, List, [], ◌∷◌, replicate, ℤ, pos, negsuc, ◌*ℤ◌, int_div, nat_le, slice_index_or, unsigned_abs}
 use Rattle.std.specs.List.{list_all}
 
 -- the number at a place, 0 past the end
 abbrev pub at : List ℤ → ℕ → ℤ
 at xs k = slice_index_or xs k (pos 0)
+
+-- so many zeros
+abbrev pub zeros : ℕ → List ℤ
+zeros n = replicate n (pos 0)
+
+abbrev pub is_zero : ℤ → Bool
+is_zero (pos zero) = true
+is_zero (pos (suc n)) = false
+is_zero (negsuc n) = false
+
+-- each number is 0
+abbrev pub all_zero : List ℤ → Bool
+all_zero xs = list_all is_zero xs
 
 -- a modulo d, for a divisor d of 1 or more: the number from 0 to d - 1 that differs from a by a multiple of d (`negsuc a` is -(a + 1))
 abbrev pub modulo : ℤ → ℤ → ℤ

@@ -51,7 +51,7 @@ pub enum Refusal {
     Depth(Met),
     /// 41: there is no tree to ask.
     NoTree,
-    /// 42: the point does not have as many numbers as the tree has parameters.
+    /// 42: the point does not have as many numbers as the tree, or in `back` the nest, has parameters.
     PointLength,
     /// 43: a number of the point is not from 0 to 1,000,000.
     PointNumber,

@@ -1,9 +1,12 @@
 //! Nests by example.
 use base::refusal::Refusal;
 use nest::nest::Nest;
+use solver::run::solve_into;
 use source::source::Source;
 use std::process::Abort;
 use std::test::Fail;
+use tree::node::Node;
+use tree::walk::{Found, find};
 
 /// Loops i to m and j to n that post to cell 2i + j, over the parameters k, m, n: the postings to cell k.
 fn pairs() -> Result<Nest, Refusal> {
@@ -61,11 +64,16 @@ fn what_is_no_bound_or_condition_is_refused(rt: HostRuntime) -> Result<(), Fail>
     Ok(())
 }
 
+/// No nest has so many loops and parameters.
+fn check_refused(rt: &impl Abort, n: usize, p: usize) {
+    assert!(rt; matches!(Nest::new(n, p), Err(Refusal::Counts)));
+}
+
 #[test]
 fn the_counts_and_context_rows_are_a_systems(rt: HostRuntime) -> Result<(), Fail> {
-    assert_eq!(rt; Nest::new(0, 0).is_err(), true);
-    assert_eq!(rt; Nest::new(7, 4).is_err(), true);
-    assert_eq!(rt; Nest::new(6, 5).is_err(), true);
+    check_refused(&rt, 0, 0);
+    check_refused(&rt, 7, 4);
+    check_refused(&rt, 6, 5);
     let mut nest = Nest::new(6, 4)?;
     assert_eq!(rt; nest.confine(&[1, 2, 3, 4]), Err(Refusal::RowShape));
     let large = Refusal::Number { row: 0, column: 4 };
@@ -83,39 +91,60 @@ fn back_turns_a_point_round(rt: HostRuntime) -> Result<(), Fail> {
     let nest = pairs()?;
     let mut place = [9; 6];
     nest.back(&[4, 3, 0], &[1, 0, 9, 9, 9, 9], &mut place)?;
-    assert_eq!(rt; place[0], 2);
-    assert_eq!(rt; place[1], 0);
-    assert_eq!(rt; place[2], 0);
-    assert_eq!(rt; place[5], 0);
+    assert_eq!(rt; place, [2, 0, 0, 0, 0, 0]);
     Ok(())
+}
+
+/// Asks back, and compares by what it is refused; the place then holds zeros.
+fn back_refused(rt: &impl Abort, nest: &Nest, point: &[i64], numbers: &[i64; 6], want: Refusal) {
+    let mut place = [9; 6];
+    assert_eq!(rt; nest.back(point, numbers, &mut place), Err(want));
+    assert_eq!(rt; place, [0; 6]);
 }
 
 #[test]
 fn back_is_refused_in_order(rt: HostRuntime) -> Result<(), Fail> {
     let nest = pairs()?;
+    let beyond = [4, 0, 0, 0, 0, 0];
+    back_refused(&rt, &nest, &[-1, 3], &beyond, Refusal::PointLength);
+    back_refused(&rt, &nest, &[-1, 3, 0], &beyond, Refusal::PointNumber);
+    back_refused(
+        &rt,
+        &nest,
+        &[4, 3, 1_000_001],
+        &beyond,
+        Refusal::PointNumber,
+    );
+    back_refused(&rt, &nest, &[4, 3, 0], &beyond, Refusal::BeyondBound);
+    back_refused(
+        &rt,
+        &nest,
+        &[4, 3, 0],
+        &[-1, 0, 0, 0, 0, 0],
+        Refusal::BeyondBound,
+    );
+    Ok(())
+}
+
+/// What the tree of a nest says at a parameter point; the counters of the latest posting are left in the place.
+fn latest(nest: &Nest, point: &[i64], place: &mut [i64; 6]) -> Result<Found, Refusal> {
+    let mut work = [Node::None; 16];
+    solve_into(nest, &mut work, 100)?;
+    let mut least = [0; 6];
+    let found = find(&work, point, &mut least)?;
+    if let Found::Point = found {
+        nest.back(point, &least, place)?;
+    }
+    Ok(found)
+}
+
+#[test]
+fn the_tree_of_two_loops_says_the_latest_posting(rt: HostRuntime) -> Result<(), Fail> {
+    let nest = pairs()?;
     let mut place = [9; 6];
-    let numbers = [4, 0, 0, 0, 0, 0];
-    assert_eq!(rt;
-        nest.back(&[-1, 3], &numbers, &mut place),
-        Err(Refusal::PointLength)
-    );
-    assert_eq!(rt;
-        nest.back(&[-1, 3, 0], &numbers, &mut place),
-        Err(Refusal::PointNumber)
-    );
-    assert_eq!(rt;
-        nest.back(&[4, 3, 1_000_001], &numbers, &mut place),
-        Err(Refusal::PointNumber)
-    );
-    place[0] = 9;
-    assert_eq!(rt;
-        nest.back(&[4, 3, 0], &numbers, &mut place),
-        Err(Refusal::BeyondBound)
-    );
-    assert_eq!(rt; place[0], 0);
-    assert_eq!(rt;
-        nest.back(&[4, 3, 0], &[-1, 0, 0, 0, 0, 0], &mut place),
-        Err(Refusal::BeyondBound)
-    );
+    assert_eq!(rt; latest(&nest, &[3, 3, 0], &mut place)?, Found::None);
+    assert_eq!(rt; place, [9; 6]);
+    assert_eq!(rt; latest(&nest, &[4, 3, 0], &mut place)?, Found::Point);
+    assert_eq!(rt; place, [2, 0, 0, 0, 0, 0]);
     Ok(())
 }

@@ -3,11 +3,12 @@ use Rattle.std.proofs.Common.{◌≡◌, ℕ, zero, suc, ◌+◌, ◌-◌, ◌*�
 use Rattle.std.proofs.lemmas.List.{get_or_append_left, get_or-append_right, get_or-drop, get_or_past, get_or-set_other, get_or-set_same, get_or-take, length-append, length-drop, length-map, length-set, length-take-le}
 use Rattle.std.proofs.lemmas.Int.{ints}
 use Rattle.base.proofs.Products.{add-within}
-use Rattle.base.specs.Numbers.{at}
+use Rattle.base.specs.Numbers.{at, zeros}
 use Rattle.base.specs.Forms.{dot}
 use Rattle.source.specs.Systems.{entry}
-use Rattle.algebra.specs.Lists.{column, plus, scaled, zeros}
-use Rattle.algebra.proofs.Dots.{at-negs, at_scaled, at-zeros, length-scaled, length-zeros}
+use Rattle.algebra.specs.Lists.{column, plus, scaled}
+use Rattle.algebra.proofs.Dots.{at-negs, at_scaled, length-scaled, length-zeros}
+use Rattle.base.proofs.Zeros.{at-zeros}
 use Rattle.algebra.proofs.Ring.{◌⊕◌, ◌⊗◌, num, ring}
 use Rattle.nest.specs.Loops.{AllLong, Loops, Shaped}
 use Rattle.nest.specs.Tables.{cell_rows, in_unknowns, loop_rows, system_of, with_bounds}

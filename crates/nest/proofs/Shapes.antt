@@ -3,15 +3,14 @@ use Rattle.std.proofs.Common.{◌≡◌, ℕ, zero, suc, ◌+◌, ◌<◌, ◌�
 use Rattle.std.proofs.lemmas.List.{get_or-replicate, length_push, length-replicate, length-set, map-set, take-replicate}
 use Rattle.std.proofs.lemmas.Bool.{and_from, and_parts, cond-true, eq-eqb, eqb-true, le-leb, leb-true, lt-ltb, ltb-true}
 use Rattle.base.specs.declared.refusal.Refusal.TheVariants.{RowShape}
-use Rattle.base.specs.Numbers.{AllWithin}
+use Rattle.base.specs.Numbers.{AllWithin, zeros}
 use Rattle.source.specs.Systems.{System, entry}
 use Rattle.source.specs.Enters.{confine_answer, confined, enter_answer, entered, with_context_row}
 use Rattle.source.specs.Limits.{first_outside, in_limits, numbers_answer, refused_at, row_answer}
 use Rattle.source.specs.RowSources.{bare}
 use Rattle.source.proofs.Joins.{enter-joined}
 use Rattle.source.proofs.Numbers.{none-outside}
-use Rattle.algebra.specs.Lists.{zeros}
-use Rattle.algebra.proofs.Dots.{at-zeros}
+use Rattle.base.proofs.Zeros.{at-zeros}
 use Rattle.nest.specs.Limits.{all_small, is_small}
 use Rattle.nest.specs.Loops.{AllLong, AllSmall, Loops, Shaped, loops_from}
 use Rattle.nest.specs.Acts.{nest_of, plain}

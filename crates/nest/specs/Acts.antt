@@ -2,10 +2,12 @@
 use Rattle.std.specs.Prelude.{ℕ, ◌+◌, cond, List, [], ◌∷◌, ◌++◌, length, replicate, ℤ, is_ok, Ok, Err, Result, slice_set}
 use Rattle.base.specs.declared.refusal.Refusal.{Refusal}
 use Rattle.base.specs.declared.refusal.Refusal.TheVariants.{Counts}
-use Rattle.source.specs.Limits.{counts_fit, row_answer}
-use Rattle.algebra.specs.Lists.{zeros}
+use Rattle.source.specs.Enters.{confine_answer as confine_system}
+use Rattle.source.specs.Limits.{counts_fit}
+use Rattle.base.specs.Numbers.{zeros}
 use Rattle.nest.specs.Limits.{given_answer}
 use Rattle.nest.specs.Loops.{Loops, loops_of}
+use Rattle.nest.specs.Tables.{system_of}
 use Rattle.nest.specs.declared.nest.Nest.{Nest}
 
 abbrev pub nest_of : Nest → Loops
@@ -30,9 +32,9 @@ bound_answer L i numbers = given_answer (L.p + 1) i L.n numbers
 abbrev pub cell_answer : Loops → List ℤ → Result (Unit {0}) Refusal
 cell_answer L numbers = given_answer (L.n + L.p + 1) (length L.cells) 3 numbers
 
--- a context row is taken as a row source takes it
+-- a context row is taken as a row source that means the same system takes it
 abbrev pub confine_answer : Loops → List ℤ → Result (Unit {0}) Refusal
-confine_answer L row = row_answer (L.p + 1) (length L.context) 8 row
+confine_answer L row = confine_system (system_of L) row
 
 -- what is given joins if it is not refused; a refusal alters nothing
 abbrev pub bounded : Loops → ℕ → List ℤ → Loops

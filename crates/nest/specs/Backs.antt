@@ -1,10 +1,10 @@
 -- From the numbers of a point of a nest's system back to the counters of its loops.
-use Rattle.std.specs.Prelude.{Bool, true, false, cond, ◌&&◌, List, [], ◌∷◌, ℤ, pos, ◌-ℤ◌, is_ok, Ok, Err, Result, int_le}
+use Rattle.std.specs.Prelude.{Bool, true, false, cond, ◌&&◌, List, [], ◌∷◌, ℤ, pos, ◌-ℤ◌, Ok, Err, Result, int_le}
 use Rattle.base.specs.declared.refusal.Refusal.{Refusal}
 use Rattle.base.specs.declared.refusal.Refusal.TheVariants.{BeyondBound}
 use Rattle.base.specs.Forms.{value_at}
 use Rattle.tree.specs.Finds.{point_answer, six_numbers}
-use Rattle.algebra.specs.Lists.{zeros}
+use Rattle.base.specs.Numbers.{zeros}
 use Rattle.nest.specs.Loops.{Loops}
 
 -- each loop's bound at the parameters, minus the loop's number; numbers beyond the loops do not count
@@ -27,20 +27,24 @@ reached (U ∷ Us) point (x ∷ xs) = reaches U point x && reached Us point xs
 abbrev pub counter_of : List ℤ → List ℤ → ℤ → Result ℤ Refusal
 counter_of U point x = cond (reaches U point x) (Ok (value_at U point -ℤ x)) (Err BeyondBound)
 
--- the counters, and zeros up to six
-abbrev pub six_of : List ℤ → List ℤ
-six_of counters = six_numbers counters
-
+-- the counters that the numbers stand for, and zeros up to six
 abbrev pub counters_of : List (List ℤ) → List ℤ → List ℤ → Result (List ℤ) Refusal
-counters_of Us point xs = cond (reached Us point xs) (Ok (six_of (bounds_less Us point xs))) (Err BeyondBound)
+counters_of Us point xs = cond (reached Us point xs) (Ok (six_numbers (bounds_less Us point xs))) (Err BeyondBound)
 
-abbrev pub then_reached : Loops → List ℤ → List ℤ → Result (Unit {0}) Refusal → Result (Unit {0}) Refusal
-then_reached L point numbers (Ok u) = cond (reached L.bounds point numbers) (Ok tt) (Err BeyondBound)
-then_reached L point numbers (Err e) = Err e
+-- what turning the numbers back comes to: the six numbers, or why it is refused; the point is looked at first
+abbrev pub then_counters : Loops → List ℤ → List ℤ → Result (Unit {0}) Refusal → Result (List ℤ) Refusal
+then_counters L point numbers (Ok u) = counters_of L.bounds point numbers
+then_counters L point numbers (Err e) = Err e
 
-abbrev pub back_answer : Loops → List ℤ → List ℤ → Result (Unit {0}) Refusal
-back_answer L point numbers = then_reached L point numbers (point_answer L.p point)
+abbrev pub turned_back : Loops → List ℤ → List ℤ → Result (List ℤ) Refusal
+turned_back L point numbers = then_counters L point numbers (point_answer L.p point)
 
--- the counters; zeros alone where it is refused
-abbrev pub left_by : Loops → List ℤ → List ℤ → List ℤ
-left_by L point numbers = cond (is_ok (back_answer L point numbers)) (six_of (bounds_less L.bounds point numbers)) (zeros 6)
+-- what back says of it
+abbrev pub said_of : Result (List ℤ) Refusal → Result (Unit {0}) Refusal
+said_of (Ok six) = Ok tt
+said_of (Err e) = Err e
+
+-- and what it leaves in the place of six: zeros alone where it is refused
+abbrev pub left_of : Result (List ℤ) Refusal → List ℤ
+left_of (Ok six) = six
+left_of (Err e) = zeros 6

@@ -1,7 +1,8 @@
 -- The system of a nest. Its unknown i stands for the bound of loop i minus its counter.
 use Rattle.std.specs.Prelude.{ℕ, suc, List, [], ◌∷◌, ◌++◌, map, take, drop, ℤ, negsuc, neg_ℤ, slice_set}
 use Rattle.source.specs.Systems.{System}
-use Rattle.algebra.specs.Lists.{plus, scaled, zeros}
+use Rattle.algebra.specs.Lists.{plus, scaled}
+use Rattle.base.specs.Numbers.{zeros}
 use Rattle.nest.specs.Loops.{Loops}
 
 -- the rows of the loops from loop i on: the bound minus the unknown

@@ -1,19 +1,17 @@
 -- What back answers for a point of a nest's system.
-use Rattle.std.proofs.Common.{◌≡◌, ℕ, suc, ◌-◌, true, cond, ◌&&◌, eqb, List, [], ◌∷◌, ◌++◌, map, length, replicate, ℤ, pos, negsuc, ◌≤ℤ◌, is_ok, Ok, Err, Result, sym, refl, ap, ◌∙◌, arith}
+use Rattle.std.proofs.Common.{◌≡◌, ℕ, suc, ◌-◌, true, cond, ◌&&◌, eqb, List, [], ◌∷◌, ◌++◌, map, length, replicate, ℤ, pos, negsuc, ◌≤ℤ◌, Ok, Err, sym, refl, ap, ◌∙◌, subst, arith}
 use borrow.Author.Differences.{ints}
 use lib.Signed.{le_z}
 use Rattle.std.proofs.lemmas.List.{length-map}
 use Rattle.std.proofs.lemmas.Bool.{and_from, cond-true, eq-eqb, le-leb}
-use Rattle.base.specs.declared.refusal.Refusal.{Refusal}
 use Rattle.base.specs.declared.refusal.Refusal.TheVariants.{BeyondBound, PointLength, PointNumber}
 use Rattle.base.specs.Forms.{value_at}
 use Rattle.tree.specs.Finds.{is_point, point_answer, six_numbers}
-use Rattle.algebra.specs.Lists.{zeros}
-use Rattle.nest.specs.Backs.{back_answer, bounds_less, left_by, reached, then_reached}
+use Rattle.nest.specs.Backs.{bounds_less, reached, then_counters, turned_back}
 use Rattle.nest.specs.Loops.{Loops, Shaped}
-use Rattle.nest_laws.specs.Laws.{Askable, BackPosts}
-use Rattle.nest_laws.specs.Postings.{UpToBounds}
-use Rattle.nest_laws.proofs.Latest.{corresponds, pairs_of}
+use Rattle.nest_laws.specs.Laws.{Askable, BackPosts, LatestTurnedBack}
+use Rattle.nest_laws.specs.Postings.{LatestAnswer, UpToBounds}
+use Rattle.nest_laws.proofs.Latest.{corresponds, latest-posting, pairs_of}
 use Rattle.nest_laws.proofs.Pairs.{pairs-within}
 
 below : (x : ℕ) (U : ℤ) → pos x ≤ℤ U → le_z (pos x) U ≡ true
@@ -51,9 +49,15 @@ back-posts L s z x e a p =
     cond-true (eqb (length (map pos z)) L.p) (cond (is_point (map pos z)) (Ok tt) (Err PointNumber)) (Err PointLength) (eq-eqb (length (map pos z)) L.p (length-map z pos ∙ e))
     ∙ cond-true (is_point (map pos z)) (Ok tt) (Err PointNumber) (asked z a) in
     let r = reach L.bounds z x rest (pairs-within L.bounds z x c (pairs_of L z x c s f)) in
-    let b : back_answer L (map pos z) (six_numbers (map pos x)) ≡ Ok tt =
-    ap (then_reached L (map pos z) (six_numbers (map pos x))) t ∙ cond-true (reached L.bounds (map pos z) (six_numbers (map pos x))) (Ok tt) (Err BeyondBound) r in
-    let l : left_by L (map pos z) (six_numbers (map pos x)) ≡ six_numbers (map pos c) =
-    ap (λ (o : Result (Unit {0}) Refusal). cond (is_ok o) (six_numbers (bounds_less L.bounds (map pos z) (six_numbers (map pos x)))) (zeros 6)) b
-    ∙ ap six_numbers (front L.bounds (map pos z) (map pos x) rest (length-map x pos ∙ f.counted ∙ sym s.each_bounded) ∙ f.turned) in
-    (c, (f, (k.posts x c f p, (b, l))))
+    let b : turned_back L (map pos z) (six_numbers (map pos x)) ≡ Ok (six_numbers (bounds_less L.bounds (map pos z) (six_numbers (map pos x)))) =
+    ap (then_counters L (map pos z) (six_numbers (map pos x))) t ∙ cond-true (reached L.bounds (map pos z) (six_numbers (map pos x))) _ (Err BeyondBound) r in
+    let l = front L.bounds (map pos z) (map pos x) rest (length-map x pos ∙ f.counted ∙ sym s.each_bounded) ∙ f.turned in
+    (c, (f, (k.posts x c f p, b ∙ ap (λ (v : List ℤ). Ok (six_numbers v)) l)))
+
+-- the values of a solved tree
+pub latest-turned-back : (L : Loops) → Shaped L → LatestTurnedBack L
+latest-turned-back L s fuel room t n e z m a values is =
+    let k = corresponds L z s in
+    let v = subst (LatestAnswer L z) is (latest-posting L s fuel room t n e z m) in
+    let b = back-posts L s z v.unknowns m.counted a (k.solves v.unknowns v.counters v.stand v.posting) in
+    (v, ap (λ (xs : List ℤ). turned_back L (map pos z) (six_numbers xs)) v.are ∙ b.1.1.1 ∙ ap (λ (d : List ℕ). Ok (six_numbers (map pos d))) (k.one_posting v.unknowns b.0 v.counters b.1.0 v.stand))

@@ -3,11 +3,12 @@ use Rattle.std.proofs.Common.{◌≡◌, ℕ, zero, suc, ◌+◌, ◌≤◌, ◌
 use Rattle.std.proofs.lemmas.List.{length-append}
 use Rattle.std.proofs.lemmas.Bool.{and_from, cond-true, le-leb}
 use Rattle.base.specs.declared.refusal.Refusal.TheVariants.{Counts}
-use Rattle.base.specs.Numbers.{AllWithin, at}
+use Rattle.base.specs.Numbers.{AllWithin, at, zeros}
 use Rattle.base.proofs.Products.{nat_abs-neg}
 use Rattle.source.specs.Limits.{counts_answer, counts_fit, numbers_answer, refused_at}
-use Rattle.algebra.specs.Lists.{zeros}
-use Rattle.algebra.proofs.Dots.{at-negs, at-zeros}
+use Rattle.algebra.proofs.Dots.{at-negs}
+use Rattle.base.proofs.Zeros.{at-zeros}
+use Rattle.base.proofs.Ranges.{within-append}
 use Rattle.solver.specs.Solves.{fitted, numbers_fit, rows_of}
 use Rattle.nest.specs.Loops.{AllLong, AllSmall, Loops, Shaped}
 use Rattle.nest.specs.Tables.{cell_rows, in_unknowns, loop_rows, system_of}
@@ -17,11 +18,6 @@ use Rattle.nest.proofs.Sizes.{row_small}
 use Rattle.nest_laws.specs.Laws.{NestFits}
 
 -- ---- small numbers
-within-append : (m : ℕ) (xs ys : List ℤ) → AllWithin m xs → AllWithin m ys → AllWithin m (xs ++ ys)
-within-append m [] ys a b k = b k
-within-append m (x ∷ xs) ys a b zero = a 0
-within-append m (x ∷ xs) ys a b (suc k) = within-append m xs ys (λ j. a (suc j)) b k
-
 small-append : (m : ℕ) (xs ys : List (List ℤ)) → AllSmall m xs → AllSmall m ys → AllSmall m (xs ++ ys)
 small-append m [] ys a b i j = b i j
 small-append m (x ∷ xs) ys a b zero j = a 0 j

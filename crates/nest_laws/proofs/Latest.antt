@@ -1,8 +1,7 @@
 -- Points and postings correspond, and so the least point is the latest posting.
-use Rattle.std.proofs.Common.{◌≡◌, ℕ, ◌+◌, ◌⊎◌, List, ◌++◌, map, ℤ, pos, Some, None, Option, sym, ap, ◌∙◌, subst, inl, inr, arith}
+use Rattle.std.proofs.Common.{◌≡◌, ℕ, ◌+◌, ◌⊎◌, List, ◌++◌, ℤ, Some, None, Option, sym, ◌∙◌, subst, inl, inr, arith}
 use Rattle.source.specs.Systems.{Point, Precedes}
 use Rattle.tree.specs.Answers.{answer_at}
-use Rattle.nest.specs.Backs.{bounds_less}
 use Rattle.nest.specs.Loops.{AllLong, Loops, Shaped}
 use Rattle.nest.specs.Tables.{cell_rows, loop_rows, system_of}
 use Rattle.solver_laws.specs.Meaning.{RightAnswer}
@@ -77,7 +76,14 @@ latest-of : (L : Loops) (z : List ℕ) → Corresponds L z → (o : Option (List
 latest-of L z k (Some values) (x, e, (p, least)) =
     let c = (k.counters_of x p).0 in
     let f = (k.counters_of x p).1 in
-    (c, ap (bounds_less L.bounds (map pos z)) e ∙ f.turned, (k.posts x c f p, λ d q. from c f d (k.unknowns_of d q).0 (k.unknowns_of d q).1 (least (k.unknowns_of d q).0 (k.solves (k.unknowns_of d q).0 d (k.unknowns_of d q).1 q))))
+    record {
+      unknowns = x;
+      counters = c;
+      are = e;
+      stand = f;
+      posting = k.posts x c f p;
+      latest = λ d q. from c f d (k.unknowns_of d q).0 (k.unknowns_of d q).1 (least (k.unknowns_of d q).0 (k.solves (k.unknowns_of d q).0 d (k.unknowns_of d q).1 q));
+    }
   where
     from : (c : List ℕ) → StandsFor L z x c → (d y : List ℕ) → StandsFor L z y d → (x ≡ y) ⊎ Precedes x y → (c ≡ d) ⊎ Later c d
     from c f d y g (inl h) = inl (k.one_posting x c d f (subst (λ (w : List ℕ). StandsFor L z w d) (sym h) g))

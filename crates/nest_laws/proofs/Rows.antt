@@ -4,8 +4,10 @@ use borrow.Author.Differences.{ints}
 use Rattle.std.proofs.lemmas.List.{drop_at, get_or-map, length-drop, take_at}
 use Rattle.base.specs.Forms.{dot, value_at}
 use Rattle.source.specs.Systems.{AllHold, Holds}
-use Rattle.algebra.specs.Lists.{products, scaled, zeros}
-use Rattle.algebra.proofs.Dots.{at-zeros, dot-comm, dot-negs, dot-plus, dot-zeros, length-scaled, length-zeros, scaled-dot, set-dot}
+use Rattle.algebra.specs.Lists.{products, scaled}
+use Rattle.base.specs.Numbers.{zeros}
+use Rattle.algebra.proofs.Dots.{dot-comm, dot-negs, dot-plus, dot-zeros, length-scaled, length-zeros, scaled-dot, set-dot}
+use Rattle.base.proofs.Zeros.{at-zeros}
 use Rattle.algebra.proofs.Ring.{◌⊕◌, ◌⊖◌, ◌⊗◌, num, ring}
 use Rattle.algebra.proofs.Systems.{row-parts}
 use Rattle.nest.specs.Loops.{AllLong}

@@ -1,15 +1,15 @@
 -- What holds of every nest.
-use Rattle.std.specs.Prelude.{◌≡◌, ℕ, ◌≤◌, List, map, length, ℤ, pos, Ok, slice_index}
+use Rattle.std.specs.Prelude.{◌≡◌, ℕ, ◌≤◌, List, map, length, ℤ, pos, Some, Ok, slice_index}
 use Rattle.source.specs.Systems.{MeetsContext, Point, Precedes}
 use Rattle.tree.specs.Answers.{answer_at}
 use Rattle.tree.specs.Finds.{six_numbers}
 use Rattle.tree.specs.Trees.{Tree}
 use Rattle.solver.specs.declared.count.Count.{Count}
 use Rattle.solver.specs.Solves.{solved, system_fits}
-use Rattle.nest.specs.Backs.{back_answer, left_by}
+use Rattle.nest.specs.Backs.{turned_back}
 use Rattle.nest.specs.Loops.{Loops}
 use Rattle.nest.specs.Tables.{system_of}
-use Rattle.nest_laws.specs.Postings.{LatestAnswer, Later, Posting, StandsFor}
+use Rattle.nest_laws.specs.Postings.{Latest, LatestAnswer, Later, Posting, StandsFor}
 
 -- At the parameters z the points of the system and the postings of the loops correspond one to one, and a point precedes
 -- another exactly if its posting comes later.
@@ -32,7 +32,7 @@ abbrev pub LatestPosting : Loops → Type 0
 LatestPosting L =
     (fuel : ℤ) (room : ℕ) (t : Tree) (c : Count) → solved (system_of L) fuel room ≡ Ok (t, c) → (z : List ℕ) → MeetsContext (system_of L) z → LatestAnswer L z (answer_at t z)
 
--- a nest has at most 12 rows, and no solve of it is refused by 11 or 12
+-- a nest has at most 12 rows, and the check of counts and numbers with which each solve begins refuses nothing
 abbrev pub NestFits : Loops → Type 0
 NestFits L = (length (system_of L).rows ≤ 12) × (system_fits (system_of L) ≡ Ok tt)
 
@@ -40,8 +40,19 @@ NestFits L = (length (system_of L).rows ≤ 12) × (system_fits (system_of L) �
 abbrev pub Askable : List ℕ → Type 0
 Askable z = (k : ℕ) → slice_index z k ≤ 1000000
 
--- back, given a point of the system and zeros up to six, answers the posting that the point stands for
+-- back, given these values and zeros up to six, is not refused and leaves the counters
+abbrev pub TurnedBack : Loops → List ℕ → List ℤ → List ℕ → Type 0
+TurnedBack L z values counters = turned_back L (map pos z) (six_numbers values) ≡ Ok (six_numbers (map pos counters))
+
+-- back, given a point of the system, answers the posting that the point stands for
 abbrev pub BackPosts : Loops → Type 0
 BackPosts L =
     (z x : List ℕ) → length z ≡ L.p → Askable z → Point (system_of L) z x →
-    (c : List ℕ) × (StandsFor L z x c × (Posting L z c × ((back_answer L (map pos z) (six_numbers (map pos x)) ≡ Ok tt) × (left_by L (map pos z) (six_numbers (map pos x)) ≡ six_numbers (map pos c)))))
+    (c : List ℕ) × (StandsFor L z x c × (Posting L z c × TurnedBack L z (map pos x) c))
+
+-- Whatever tree a solve of the nest answers, at parameters of the context that can be asked back turns the values that it gives into the
+-- counters of the latest posting.
+abbrev pub LatestTurnedBack : Loops → Type 0
+LatestTurnedBack L =
+    (fuel : ℤ) (room : ℕ) (t : Tree) (c : Count) → solved (system_of L) fuel room ≡ Ok (t, c) → (z : List ℕ) → MeetsContext (system_of L) z → Askable z →
+    (values : List ℤ) → answer_at t z ≡ Some values → (latest : Latest L z values) × TurnedBack L z values latest.counters

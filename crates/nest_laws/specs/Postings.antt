@@ -31,8 +31,16 @@ pub record StandsFor (L : Loops) (z x counters : List ℕ) : Type 0 where
 abbrev pub Later : List ℕ → List ℕ → Type 0
 Later c d = Precedes d c
 
+-- the values are unknowns, and the counters that they stand for are the latest posting at z
+pub record Latest (L : Loops) (z : List ℕ) (values : List ℤ) : Type 0 where
+  pub unknowns : List ℕ
+  pub counters : List ℕ
+  pub are : values ≡ map pos unknowns
+  pub stand : StandsFor L z unknowns counters
+  pub posting : Posting L z counters
+  pub latest : (d : List ℕ) → Posting L z d → (counters ≡ d) ⊎ Later counters d
+
 -- what is said of the postings at z: the unknowns of the latest one, or that there is none
 abbrev pub LatestAnswer : Loops → List ℕ → Option (List ℤ) → Type 0
-LatestAnswer L z (Some values) =
-    (c : List ℕ) × (bounds_less L.bounds (map pos z) values ≡ map pos c) × (Posting L z c × ((d : List ℕ) → Posting L z d → (c ≡ d) ⊎ Later c d))
+LatestAnswer L z (Some values) = Latest L z values
 LatestAnswer L z None = (c : List ℕ) → Posting L z c → ⊥

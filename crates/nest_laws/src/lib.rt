@@ -2,7 +2,7 @@
 #![tactic(auto)]
 
 ghost use Rattle.nest.specs.Acts.{nest_of};
-ghost use Rattle.nest_laws.specs.Laws.{BackPosts, LatestPosting, NestFits, PostingsCorrespond};
+ghost use Rattle.nest_laws.specs.Laws.{BackPosts, LatestPosting, LatestTurnedBack, NestFits, PostingsCorrespond};
 
 use nest::nest::Nest;
 
@@ -16,7 +16,7 @@ pub fn latest_posting_stands(nest: &Nest)
     ensures law { LatestPosting (nest_of nest.now) }
 {}
 
-/// No solve of a nest is refused for its counts or its numbers.
+/// The check of counts and numbers with which each solve begins refuses no nest.
 pub fn nest_fits(nest: &Nest)
     ensures law { NestFits (nest_of nest.now) }
 {}
@@ -24,4 +24,9 @@ pub fn nest_fits(nest: &Nest)
 /// Given a point of a nest's system, back answers the posting that it stands for.
 pub fn back_posts(nest: &Nest)
     ensures law { BackPosts (nest_of nest.now) }
+{}
+
+/// Whatever tree a solve of a nest answers, back turns the values that it gives into the counters of the latest posting.
+pub fn latest_turned_back(nest: &Nest)
+    ensures law { LatestTurnedBack (nest_of nest.now) }
 {}

@@ -3,18 +3,15 @@ use Rattle.std.proofs.Common.{◌≡◌, ℕ, zero, suc, ◌+◌, ◌^◌, ◌<�
 use lib.Signed.{le_z, lt_z}
 use Rattle.std.proofs.lemmas.List.{get_or_past, get_or-take, length-take-le}
 use Rattle.std.proofs.lemmas.Int.{ints}
-use Rattle.std.proofs.lemmas.Bool.{and_cases, and_from, and_parts, cond-false, cond-true, not-true, cases_Bool, cases_lt, eqb-true, false≢true, le-leb, le-ltb, leb-true, lt-ltb, or_cases, or_left, or_right}
-use Rattle.base.specs.Numbers.{at, in_range}
+use Rattle.std.proofs.lemmas.Bool.{and_cases, and_from, and_parts, cond-false, cond-true, not-true, cases_Bool, cases_lt, false≢true, le-leb, le-ltb, leb-true, lt-ltb, or_cases, or_left, or_right}
+use Rattle.base.specs.Numbers.{all_zero, at, in_range, is_zero}
+use Rattle.base.proofs.Zeros.{is_zero-is}
 use Rattle.tree.specs.Finds.{all_below}
 use Rattle.tree.specs.Limits.{AllFormsFit, FormFits, NewFits}
 use Rattle.tree.proofs.Walking.{below_all, is_true}
-use Rattle.page.specs.Fits.{all_zero, fits_from, form_fits, is_zero, leaf_fits, new_fits, number_fits, usable}
+use Rattle.page.specs.Fits.{fits_from, form_fits, leaf_fits, new_fits, number_fits, usable}
 use Rattle.page.specs.Words.{Fit32, forms}
 use Rattle.page.proofs.Words.{AllTen, Ten, length-words}
-
-zero_is : (x : ℤ) → is_zero x ≡ true → x ≡ pos 0
-zero_is (pos n) e = ap pos (eqb-true n 0 e)
-zero_is (negsuc n) e = absurd (let no : ⊥ = omega (arith, eqb-true (suc n) 0 e) in no)
 
 -- ---- one number
 
@@ -39,7 +36,7 @@ number-out : (p made k : ℕ) (x : ℤ) → number_fits p made k x ≡ true → 
 number-out p made k x e =
     let t = and_parts (in_range x) (usable p made k || is_zero x) e in
     let Z : Type 0 = x ≡ pos 0 in
-    let unused : usable p made k ≡ false → Z = λ u. ⊎_elim (λ (v : usable p made k ≡ true). absurd (false≢true (sym u ∙ v))) (λ (z : is_zero x ≡ true). zero_is x z) (or_cases (usable p made k) (is_zero x) t.1) in (
+    let unused : usable p made k ≡ false → Z = λ u. ⊎_elim (λ (v : usable p made k ≡ true). absurd (false≢true (sym u ∙ v))) (λ (z : is_zero x ≡ true). is_zero-is x z) (or_cases (usable p made k) (is_zero x) t.1) in (
       leb-true (nat_abs x) (2 ^ 30) t.0,
       (
         λ q lt. unused (cond-true (ltb k 4) _ _ (lt-ltb k 4 lt) ∙ le-ltb k p q),
@@ -98,7 +95,7 @@ form-ten p made C f = (f.ten, from-fit32 p made 0 C (form_in p made C f))
 
 all-zero-at : (xs : List ℤ) → all_zero xs ≡ true → (k : ℕ) → at xs k ≡ pos 0
 all-zero-at [] e k = refl
-all-zero-at (x ∷ xs) e zero = zero_is x (and_parts (is_zero x) (all_zero xs) e).0
+all-zero-at (x ∷ xs) e zero = is_zero-is x (and_parts (is_zero x) (all_zero xs) e).0
 all-zero-at (x ∷ xs) e (suc k) = all-zero-at xs (and_parts (is_zero x) (all_zero xs) e).1 k
 
 nonzero-at : (xs : List ℤ) → all_zero xs ≡ false → (k : ℕ) × ((k < length xs) × (at xs k ≢ pos 0))
@@ -170,7 +167,7 @@ zeros-are zero (x ∷ xs) l e = absurd (let no : ⊥ = omega (arith, l) in no)
 zeros-are (suc m) [] l e = absurd (let no : ⊥ = omega (arith, l) in no)
 zeros-are (suc m) (x ∷ xs) l e =
     let t = and_parts (is_zero x) (all_zero xs) e in
-    ap₂ ◌∷◌ (zero_is x t.0) (zeros-are m xs (omega (arith, l)) t.1)
+    ap₂ ◌∷◌ (is_zero-is x t.0) (zeros-are m xs (omega (arith, l)) t.1)
 
 pub leaf-out : (n p made : ℕ) (Cs : List (List ℤ)) (m : ℕ) → Tens Cs → length Cs ≡ n + m → leaf_fits n p made Cs ≡ true → AllFormsFit p made (take n Cs) × (Cs ≡ take n Cs ++ replicate m zero_form)
 unfolding leaf_fits

@@ -2,7 +2,8 @@
 use Rattle.std.proofs.Common.{◌≡◌, ℕ, zero, suc, ◌+◌, ◌-◌, ◌&&◌, cond, ltb, List, [], ◌∷◌, ℤ, refl, ap, ◌∙◌, ap₂, add-one, arith}
 use Rattle.std.specs.List.{enumerate_from, list_all}
 use Rattle.std.proofs.lemmas.Bool.{cond-false, cond-true, le-ltb, lt-ltb}
-use Rattle.page.specs.Fits.{all_zero, fits_from, form_fits, leaf_fits, number_fits}
+use Rattle.page.specs.Fits.{fits_from, form_fits, leaf_fits, number_fits}
+use Rattle.base.specs.Numbers.{all_zero}
 
 fits-is : (p made k : ℕ) (C : List ℤ) → list_all (λ q. number_fits p made q.0 q.1) (enumerate_from k C) ≡ fits_from p made k C
 fits-is p made k [] = refl

@@ -1,11 +1,7 @@
 -- The limits of a record's numbers, as tests.
-use Rattle.std.specs.Prelude.{ℕ, zero, suc, ◌+◌, ◌^◌, Bool, true, cond, not, ◌&&◌, ◌||◌, List, [], ◌∷◌, take, ℤ, pos, ◌==◌, int_le, nat_lt, unsigned_abs}
-use Rattle.std.specs.List.{list_all}
-use Rattle.base.specs.Numbers.{in_range}
+use Rattle.std.specs.Prelude.{ℕ, zero, suc, ◌+◌, ◌^◌, Bool, true, cond, not, ◌&&◌, ◌||◌, List, [], ◌∷◌, take, ℤ, pos, int_le, nat_lt}
+use Rattle.base.specs.Numbers.{all_zero, in_range, is_zero}
 use Rattle.tree.specs.Finds.{all_below}
-
-abbrev pub is_zero : ℤ → Bool
-is_zero x = unsigned_abs x == 0
 
 -- place k of a form may be other than 0: the first p of four parameters, the new ones made so far of five, the constant
 abbrev pub usable : ℕ → ℕ → ℕ → Bool
@@ -21,9 +17,6 @@ fits_from p made k (x ∷ xs) = number_fits p made k x && fits_from p made (suc 
 
 unfoldable pub form_fits : ℕ → ℕ → List ℤ → Bool
 form_fits p made C = fits_from p made 0 C
-
-abbrev pub all_zero : List ℤ → Bool
-all_zero xs = list_all is_zero xs
 
 -- a new parameter floor(T / d): d is 2 or more, T's numbers are from 0 to d - 1, some coefficient is not 0
 unfoldable pub new_fits : ℕ → ℕ → ℤ → List ℤ → Bool

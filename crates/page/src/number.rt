@@ -1,6 +1,7 @@
 //! The numbers of a record: four bytes each, highest first, two's complement; and their limits.
 ghost use Rattle.std.specs.Prelude.{◌≡◌, ◌^◌, ◌&&◌, drop, pos, if◌then◌else◌, int_le};
-ghost use Rattle.page.specs.Fits.{all_zero, form_fits, leaf_fits, new_fits, number_fits, usable};
+ghost use Rattle.page.specs.Fits.{form_fits, leaf_fits, new_fits, number_fits, usable};
+ghost use Rattle.base.specs.Numbers.{all_zero};
 ghost use Rattle.page.specs.Words.{forms, word, words};
 
 use tree::node::NodeForm;

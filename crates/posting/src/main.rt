@@ -6,18 +6,13 @@ use base::refusal::Refusal;
 use listing::solve::WORK;
 use listing::word::{first_word, number};
 use nest::nest::Nest;
-use solver::run::solve_into;
+use solver::run::{FUEL, solve_into};
+use source::limits::MAX_ROW_LENGTH;
 use source::source::Source;
 use std::alloc::{AllocError, AllocFailed};
 use std::io::Read;
 use tree::node::Node;
 use tree::walk::{Found, find};
-
-/// The steps that a solve may make.
-const FUEL: i64 = 100_000;
-
-/// The most numbers of a line: for six counters, four parameters and the constant.
-const MOST: usize = 11;
 
 // An error type of this program's own: another program stops for other things.
 /// Why the lines are not taken to their end.
@@ -90,11 +85,11 @@ struct Reading {
     solved: Option<Result<Tree, Refusal>>,
 }
 
-/// The numbers of a line.
+/// The numbers of a line, of which no line has more than a row.
 fn numbers_of(rt: &HostRuntime, line: &[u8]) -> Result<Vec<i64>, Stop> {
     let mut numbers = Vec::new(rt.alloc());
     let mut rest = line;
-    for _ in 0..=MOST {
+    for _ in 0..=MAX_ROW_LENGTH {
         let (word, after) = first_word(rest);
         if word.is_empty() {
             return Ok(numbers);

@@ -1,17 +1,18 @@
 -- In a test no form names a parameter, and pivots and cuts keep it so.
-use Rattle.std.proofs.Common.{◌≡◌, ℕ, zero, suc, ◌<◌, true, ◌&&◌, ◌≢◌, List, [], ◌∷◌, ◌++◌, map, get_or, take, set, ℤ, pos, negsuc, ◌*ℤ◌, neg_ℤ, nat_abs, None, refl, ap, ◌∙◌, arith}
+use Rattle.std.proofs.Common.{◌≡◌, ℕ, zero, suc, ◌<◌, true, ◌≢◌, List, [], ◌∷◌, ◌++◌, map, get_or, take, set, ℤ, pos, negsuc, ◌*ℤ◌, neg_ℤ, nat_abs, None, refl, ap, ◌∙◌, arith}
 use native.Mathlib.Nat.{zero-div, zero-mod}
 use lib.IntN.{*ℤ-zero}
 use Rattle.std.proofs.lemmas.List.{get_or-set_other}
 use Rattle.std.proofs.lemmas.Int.{ints}
-use Rattle.base.specs.Numbers.{at, mod_by, quot_by}
+use Rattle.base.specs.Numbers.{at, mod_by, quot_by, zeros}
+use Rattle.base.proofs.Zeros.{all_zero-take, at-zeros}
 use Rattle.tableau.specs.declared.table.Row.{Row}
 use Rattle.tableau.specs.Rows.{combined, gcd_of, pivoted, turned}
-use Rattle.tableau.specs.Cuts.{cut_of, cut_row, is_constant, is_zero, none_of}
+use Rattle.tableau.specs.Cuts.{cut_of, cut_row, is_constant}
 use Rattle.tableau.specs.declared.table.Table.{Table}
-use Rattle.tableau.specs.Tables.{in_use, no_row}
+use Rattle.tableau.specs.Tables.{in_use, no_row, unit_rows}
 use Rattle.solver.specs.Bounds.{AllConst, ConstForm}
-use Rattle.solver.specs.Tests.{test_row, unit_rows, zeros}
+use Rattle.solver.specs.Tests.{test_row}
 
 -- what keeps 0 keeps it at each place, past the end too
 pub map-zero : (f : ℤ → ℤ) → f (pos 0) ≡ pos 0 → (xs : List ℤ) (k : ℕ) → at xs k ≡ pos 0 → at (map f xs) k ≡ pos 0
@@ -61,13 +62,8 @@ const-turned t i j lt a = const-map (pivoted (get_or t.rows i no_row) j) (λ r h
 cut-zero : (r : Row) → ConstForm r → (k : ℕ) → k < 9 → at (cut_of r).form k ≡ pos 0
 cut-zero r c k lt = map-zero (mod_by r.div) (mod-zero r.div) (map neg_ℤ r.form) k (map-zero neg_ℤ refl r.form k (c k lt))
 
-none_of_lem : (n : ℕ) (xs : List ℤ) → ((k : ℕ) → k < n → at xs k ≡ pos 0) → none_of (take n xs) ≡ true
-none_of_lem zero xs h = refl
-none_of_lem (suc n) [] h = refl
-none_of_lem (suc n) (x ∷ xs) h = ap (λ z. is_zero z && none_of (take n xs)) (h 0 (omega arith)) ∙ none_of_lem n xs (λ k lt. h (suc k) (omega arith))
-
 pub const-cut : (r : Row) → ConstForm r → is_constant (cut_of r) ≡ true
-const-cut r c = none_of_lem 9 (cut_of r).form (cut-zero r c)
+const-cut r c = all_zero-take 9 (cut_of r).form (cut-zero r c)
 
 pub const-cut-row : (r : Row) → ConstForm r → ConstForm (cut_row (cut_of r) None)
 const-cut-row r c k lt =
@@ -75,17 +71,12 @@ const-cut-row r c k lt =
     map-zero (quot_by g) (quot-zero g) (map neg_ℤ (cut_of r).form) k (map-zero neg_ℤ refl (cut_of r).form k (cut-zero r c k lt))
 
 -- a test starts with such rows
-zeros-at : (n k : ℕ) → at (zeros n) k ≡ pos 0
-zeros-at zero k = refl
-zeros-at (suc n) zero = refl
-zeros-at (suc n) (suc k) = zeros-at n k
-
 pub const-units : (h k : ℕ) → AllConst (unit_rows h k)
 const-units h zero = tt
-const-units h (suc k) = (λ m lt. zeros-at 10 m, const-units (suc h) k)
+const-units h (suc k) = (λ m lt. at-zeros 10 m, const-units (suc h) k)
 
 last-only : (v : ℤ) (k : ℕ) → k < 9 → at (set (zeros 10) 9 v) k ≡ pos 0
-last-only v k h = let ne : k ≢ 9 = omega arith in get_or-set_other (zeros 10) 9 k v (pos 0) ne ∙ zeros-at 10 k
+last-only v k h = let ne : k ≢ 9 = omega arith in get_or-set_other (zeros 10) 9 k v (pos 0) ne ∙ at-zeros 10 k
 
 pub const-tests : (p made : ℕ) (forms : List (List ℤ)) → AllConst (map (test_row p made) forms)
 const-tests p made [] = tt

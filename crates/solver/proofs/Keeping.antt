@@ -1,11 +1,12 @@
 -- What is kept as rows and forms are written: small numbers, sound rows.
 use Rattle.std.proofs.Common.{◌≡◌, ℕ, zero, suc, ◌+◌, ◌^◌, ◌<◌, ◌≤◌, ◌≢◌, List, [], ◌∷◌, map, length, get_or, drop, set, replicate, ℤ, pos, negsuc, nat_abs, sym, refl, ap, ◌∙◌, subst, ⊎_elim, div-le_self, arith, w64, SFits, to_z, of_z}
-use Rattle.std.proofs.lemmas.List.{get_or-set_same, get_or-set_other, get_or-drop, set_past}
+use Rattle.std.proofs.lemmas.List.{get_or-set_same, get_or-set_other, get_or-drop}
 use Rattle.std.proofs.lemmas.Int.{ints, to_z-of_z}
-use Rattle.std.proofs.lemmas.Bool.{cases_eq, cases_lt}
+use Rattle.std.proofs.lemmas.Bool.{cases_eq}
 use Rattle.base.specs.Numbers.{AllWithin, at, gcds, quot_by}
 use Rattle.base.proofs.Products.{nat_abs-neg}
 use Rattle.base.proofs.Gcds.{gcds-one}
+use Rattle.base.proofs.Ranges.{within-set}
 use Rattle.tableau.specs.declared.table.Row.{Row}
 use Rattle.tableau.specs.declared.table.Table.{Table}
 use Rattle.tableau.specs.Rows.{Sound}
@@ -30,13 +31,6 @@ each-push P d n xs v inside p all k below =
     (λ (e : k ≡ n). subst (λ m. P (get_or (set xs n v) m d)) (sym e) (subst P (sym (get_or-set_same xs n v d inside)) p))
     (λ (ne : k ≢ n). subst P (sym (get_or-set_other xs n k v d ne)) (all k (omega arith)))
     (cases_eq k n)
-
-pub within-set : (m : ℕ) (xs : List ℤ) (i : ℕ) (v : ℤ) → nat_abs v ≤ m → AllWithin m xs → AllWithin m (set xs i v)
-within-set m xs i v small all k =
-    ⊎_elim
-    (λ (lt : i < length xs). each_set (λ z. nat_abs z ≤ m) (pos 0) (suc k) xs i v small (λ j below. all j) k (omega arith) lt)
-    (λ (ge : length xs ≤ i). subst (λ l. nat_abs (at l k) ≤ m) (sym (set_past xs i v ge)) (all k))
-    (cases_lt i (length xs))
 
 pub within-zeros : (m n k : ℕ) → nat_abs (at (replicate n (pos 0)) k) ≤ m
 within-zeros m zero k = omega arith

@@ -2,11 +2,10 @@
 use Rattle.std.proofs.Common.{◌≡◌, ℕ, zero, suc, ◌+◌, ◌-◌, ◌^◌, ◌<◌, ◌≤◌, List, [], ◌∷◌, ◌++◌, map, length, get_or, take, drop, set, ℤ, pos, Ok, Err, Result, sym, refl, ap, ap₂, ◌∙◌, arith}
 use Rattle.std.proofs.lemmas.List.{at_drop_more, drop-replicate, length-take-le, map_more, map_push, set-append_right}
 use Rattle.base.specs.declared.refusal.Refusal.{Refusal}
-use Rattle.base.specs.Numbers.{AllWithin, at}
+use Rattle.base.specs.Numbers.{AllWithin, at, zeros}
 use Rattle.source.specs.Limits.{numbers_answer}
 use Rattle.tableau.specs.declared.table.Row.{Row}
 use Rattle.solver.specs.Solves.{and_then, fitted, form_of, numbers_fit}
-use Rattle.solver.specs.Tests.{zeros}
 
 -- ---- numbers written over the first of so many zeros
 pub front-copied : (w n : ℕ) (xs copied : List ℤ) → copied ≡ take n xs → copied ++ drop n (zeros w) ≡ take n xs ++ zeros (w - n)

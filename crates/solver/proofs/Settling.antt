@@ -5,7 +5,7 @@ use Rattle.base.specs.declared.refusal.Refusal.{Refusal}
 use Rattle.tableau.specs.declared.table.Table.{Table}
 use Rattle.tableau.specs.Columns.{pivot_place}
 use Rattle.tableau.specs.Cuts.{cut_of, first_fraction}
-use Rattle.tableau.specs.Tables.{in_use, no_row, top}
+use Rattle.tableau.specs.Tables.{in_use, no_row, rest, top}
 use Rattle.tree.specs.Trees.{Tree}
 use Rattle.solver.specs.declared.count.Count.{Count}
 use Rattle.solver.specs.declared.settle.End.{End}
@@ -21,9 +21,10 @@ use Rattle.solver.specs.Rules.{Work, act, cut, finish, lift, scan, settle, sign_
 use Rattle.tree.specs.declared.node.Node.{Node as TreeNode}
 use Rattle.tree.specs.declared.node.Node.TheVariants.{New}
 use Rattle.solver.proofs.Writing.{noted-from, wrote_none, wrote-trans}
-use Rattle.solver.specs.Ties.{KnownAs, Wrote, limits, with_table, noted_in, after_cut, moved, rest, scan_at, scanned_at, work_of}
+use Rattle.solver.specs.Ties.{KnownAs, Wrote, limits, with_table, noted_in, after_cut, moved, scan_at, scanned_at, work_of}
 use Rattle.solver.proofs.Testing.{frac-none, fraction-at, settle_is}
-use Rattle.solver.proofs.Turning.{both_used, place_none, place-some}
+use Rattle.solver.proofs.Turning.{place_none, place-some}
+use Rattle.tableau.proofs.Parts.{both_used}
 
 -- the work after a cut
 pub worked-new : (x y : State) (t : Table) (r : Result Count Refusal) → y.context.parameters ≡ x.context.parameters → y.cuts ≡ x.cuts → moved t (after_cut (work_of x) (in_force y.context) y.context.made) r ≡ worked (record { table = t; context = y.context; cuts = y.cuts + 1; left = y.left }) r

@@ -1,8 +1,9 @@
 -- The rows that a table starts from, one more at a time and place by place.
-use Rattle.std.proofs.Common.{◌≡◌, ℕ, zero, suc, ◌+◌, ◌-◌, ◌<◌, ◌≤◌, List, [], ◌∷◌, ◌++◌, length, take, drop, ℤ, pos, sym, refl, ap, ◌∙◌, add-one, arith}
+use Rattle.std.proofs.Common.{◌≡◌, ℕ, zero, suc, ◌+◌, ◌-◌, ◌<◌, ◌≤◌, List, [], ◌∷◌, ◌++◌, length, take, drop, ℤ, pos, sym, ap, ◌∙◌, add-one, arith}
 use Rattle.std.proofs.lemmas.List.{length-append, length-drop, length-replicate, length-take, get_or_append_left, get_or-append_right, get_or-drop, get_or-replicate, get_or-take}
-use Rattle.base.specs.Numbers.{at}
-use Rattle.solver.specs.Tests.{test_row, unit_row, unit_rows, zeros}
+use Rattle.base.specs.Numbers.{at, zeros}
+use Rattle.solver.specs.Tests.{test_row}
+use Rattle.tableau.specs.Tables.{unit_row, unit_rows}
 
 -- one unknown more
 units-from : (h k : ℕ) → unit_rows h (suc k) ≡ unit_rows h k ++ unit_row (h + k) ∷ []
@@ -11,10 +12,6 @@ units-from h (suc k) = ap (λ l. unit_row h ∷ l) (units-from (suc h) k ∙ ap 
 
 pub units-more : (k : ℕ) → unit_rows 0 (k + 1) ≡ unit_rows 0 k ++ unit_row k ∷ []
 units-more k = ap (unit_rows 0) (add-one k) ∙ units-from 0 k ∙ ap (λ n. unit_rows 0 k ++ unit_row n ∷ []) (let e : 0 + k ≡ k = omega arith in e)
-
-pub length-units : (h k : ℕ) → length (unit_rows h k) ≡ k
-length-units h zero = refl
-length-units h (suc k) = ap suc (length-units (suc h) k)
 
 module _ (p made : ℕ) (C : List ℤ) (hp : p ≤ 4) (hm : made ≤ 5) (long : length C ≡ 10) where
   front : length (take p C) ≡ p

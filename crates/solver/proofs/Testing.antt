@@ -9,7 +9,7 @@ use Rattle.tableau.specs.declared.table.Row.{Row}
 use Rattle.tableau.specs.declared.table.Table.{Table}
 use Rattle.tableau.specs.Columns.{entering}
 use Rattle.tableau.specs.Cuts.{cut_of, first_fraction, whole}
-use Rattle.tableau.specs.Tables.{in_use, no_row, top}
+use Rattle.tableau.specs.Tables.{in_use, no_row, rest, top, unit_rows}
 use Rattle.tree.specs.Trees.{Tree, leaf, none}
 use Rattle.solver.specs.declared.context.Context.{Context}
 use Rattle.solver.specs.declared.count.Count.{Count}
@@ -18,12 +18,13 @@ use Rattle.solver.specs.Runs.{Limits, Outcome, met_at, refuse, return, next, ◌
 use Rattle.base.specs.declared.refusal.Refusal.TheVariants.{Range}
 use Rattle.base.specs.Numbers.{within}
 use Rattle.solver.specs.Rules.{Scan, Way, Work, act, below, clear, cut, finish, fraction, has_point, lift, scan, scanned, settle, ranged, sign_of, test, test_with, test_work, testing, turn}
-use Rattle.solver.specs.Tests.{test_row, unit_rows}
+use Rattle.solver.specs.Tests.{test_row}
 use Rattle.base.specs.declared.refusal.Refusal.{Refusal}
-use Rattle.solver.specs.Ties.{KnownAs, after_cut, first_negative, moved, rest, test_of, tested}
-use Rattle.solver.proofs.Starting.{length-units}
+use Rattle.solver.specs.Ties.{KnownAs, after_cut, first_negative, moved, test_of, tested}
+use Rattle.tableau.proofs.Units.{length-units}
 use Rattle.tableau.specs.Columns.{pivot_place}
-use Rattle.solver.proofs.Turning.{both_used, place_none, place-some}
+use Rattle.solver.proofs.Turning.{place_none, place-some}
+use Rattle.tableau.proofs.Parts.{both_used}
 
 -- ---- signs of constants
 abbrev neg_scan : List Row → Scan

@@ -8,28 +8,13 @@ use Rattle.tableau.specs.declared.table.Row.{Row}
 use Rattle.tableau.specs.declared.table.Table.{Table}
 use Rattle.tableau.specs.Rows.{fits, pivoted}
 use Rattle.tableau.specs.Columns.{entering, pivot_place, with_row as place_at}
-use Rattle.tableau.specs.Tables.{all_fit, in_use, no_row, top}
+use Rattle.tableau.proofs.Parts.{both_used, rest-mapped, top-mapped}
+use Rattle.tableau.specs.Tables.{all_fit, in_use, no_row, rest, top}
 use Rattle.tree.specs.Trees.{Tree}
 use Rattle.solver.specs.declared.count.Count.{Count}
 use Rattle.solver.specs.Runs.{Limits, Outcome, Run, return, next, ◌>>=◌, ◌>>◌, refuse, tick, met_at, stepped}
 use Rattle.solver.specs.Rules.{Work, added, ranged, turn, with_row}
-use Rattle.solver.specs.Ties.{after_cut, limits, rest, ticked, with_table}
-
--- ---- tables
-pub top-used : (t : Table) → t.unknowns ≤ t.count → top t ≡ take t.unknowns (in_use t)
-top-used t h = sym (take-take t.unknowns t.count t.rows h)
-
-pub both_used : (t : Table) → t.unknowns ≤ t.count → top t ++ rest t ≡ in_use t
-both_used t h = ap (λ l. l ++ rest t) (top-used t h) ∙ take-append-drop t.unknowns (in_use t)
-
-module _ (f : Row → Row) (t u : Table) (h : t.unknowns ≤ t.count) (count : u.count ≡ t.count) (unknowns : u.unknowns ≡ t.unknowns) (rows : in_use u ≡ map f (in_use t)) where
-  pub top-mapped : top u ≡ map f (top t)
-  top-mapped =
-      top-used u (omega (arith, count, unknowns)) ∙ ap (λ n. take n (in_use u)) unknowns ∙ ap (take t.unknowns) rows ∙ take-map f t.unknowns (in_use t)
-      ∙ ap (map f) (sym (top-used t h))
-
-  pub rest-mapped : rest u ≡ map f (rest t)
-  rest-mapped = ap (λ n. drop n (in_use u)) unknowns ∙ ap (drop t.unknowns) rows ∙ drop-map f t.unknowns (in_use t)
+use Rattle.solver.specs.Ties.{after_cut, limits, ticked, with_table}
 
 -- a search through the rows in use: row h comes next
 pub used-more : {Y : Type 0} (F : List Row → Y) (t : Table) (h : ℕ) → h < length (in_use t) → F (drop h (in_use t)) ≡ F (get_or t.rows h no_row ∷ drop (h + 1) (in_use t))

@@ -10,12 +10,12 @@ use Rattle.tableau.specs.declared.table.Row.{Row}
 use Rattle.tableau.specs.Columns.{entering}
 use Rattle.tableau.specs.Cuts.{CutNumbers, cut_of, cut_row, is_constant, lower, upper, whole}
 use Rattle.tableau.specs.Rows.{fits, pivoted}
-use Rattle.tableau.specs.Tables.{all_fit}
+use Rattle.tableau.specs.Tables.{all_fit, unit_rows}
 use Rattle.tree.specs.Trees.{Tree, split, new, leaf, none}
 use Rattle.solver.specs.declared.sign.Sign.{Sign}
 use Rattle.solver.specs.declared.sign.Sign.TheVariants.{NonNegative, Negative, Unknown}
 use Rattle.solver.specs.Runs.{Run, return, ◌>>=◌, ◌>>◌, refuse, tick, bar, write}
-use Rattle.solver.specs.Tests.{test_row, unit_rows}
+use Rattle.solver.specs.Tests.{test_row}
 
 -- the unknowns' rows, the other rows, what is known of the p parameters and of the new ones made so far, the cuts made
 pub record Work : Type 0 where

@@ -3,7 +3,7 @@ use Rattle.std.specs.Prelude.{ℕ, zero, suc, ◌+◌, ◌-◌, Bool, true, fals
 use Rattle.base.specs.declared.refusal.Place.TheVariants.{Node}
 use Rattle.base.specs.declared.refusal.Refusal.{Refusal}
 use Rattle.base.specs.declared.refusal.Refusal.TheVariants.{Fuel, NoParameterPoint}
-use Rattle.base.specs.Numbers.{at}
+use Rattle.base.specs.Numbers.{at, zeros}
 use Rattle.source.specs.Limits.{counts_answer, numbers_answer}
 use Rattle.source.specs.Systems.{System}
 use Rattle.tableau.specs.declared.table.Row.{Row}
@@ -12,7 +12,7 @@ use Rattle.tree.specs.declared.node.Node.TheVariants.{Head, Keep, None as Blank}
 use Rattle.tree.specs.Trees.{Tree, nodes}
 use Rattle.solver.specs.declared.run.Solved.{Solved}
 use Rattle.solver.specs.Runs.{Outcome, Run, fail, return, ◌>>=◌, ◌>>◌, write}
-use Rattle.solver.specs.Tests.{unit_rows, zeros}
+use Rattle.tableau.specs.Tables.{unit_rows}
 use Rattle.solver.specs.Rules.{Work, node, test}
 
 -- ---- a system's rows as rows of the table

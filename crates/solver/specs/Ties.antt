@@ -11,7 +11,7 @@ use Rattle.source.specs.Limits.{counts_answer, numbers_answer}
 use Rattle.source.specs.Systems.{System}
 use Rattle.tableau.specs.declared.table.Row.{Row}
 use Rattle.tableau.specs.declared.table.Table.{Table}
-use Rattle.tableau.specs.Tables.{in_use, no_row, top}
+use Rattle.tableau.specs.Tables.{no_row, rest, top, unit_rows}
 use Rattle.tree.specs.declared.node.Node.{Node as TreeNode}
 use Rattle.solver.specs.declared.context.Context.{Context}
 use Rattle.solver.specs.declared.count.Count.{Count}
@@ -22,14 +22,9 @@ use Rattle.solver.specs.Bounds.{in_force}
 use Rattle.solver.specs.Runs.{Limits, Outcome, met_at, noted, stepped}
 use Rattle.solver.specs.Rules.{Scan, Work, below, clear, unsure}
 use Rattle.solver.specs.Solves.{and_then, fitted, form_of, numbers_fit, row_of, start, system_fits}
-use Rattle.solver.specs.Tests.{unit_rows}
 
 abbrev pub limits : ℕ → ℕ → Limits
 limits fuel room = record { fuel = fuel; room = room }
-
--- the rows after the unknowns' rows
-abbrev pub rest : Table → List Row
-rest t = drop t.unknowns (in_use t)
 
 -- the work with this table
 abbrev pub with_table : Table → Work → Work

@@ -1,13 +1,12 @@
 //! The system of a source, read once and put into a table and a context.
 ghost use Rattle.std.specs.Prelude.{◌≡◌, ◌+◌, ◌-◌, ◌^◌, ◌<◌, ◌≤◌, [], ◌++◌, drop, length, take, pos, Ok, Err, IfOk, slice_index_or};
-ghost use Rattle.base.specs.Numbers.{AllWithin};
+ghost use Rattle.base.specs.Numbers.{AllWithin, zeros};
 ghost use Rattle.source.specs.Counted.{counted};
 ghost use Rattle.source.specs.Limits.{numbers_answer};
 ghost use Rattle.tableau.specs.Rows.{Sound};
 ghost use Rattle.tableau.specs.Tables.{Ready};
 ghost use Rattle.solver.specs.Bounds.{StateReady};
 ghost use Rattle.solver.specs.Solves.{fitted, form_of, row_of};
-ghost use Rattle.solver.specs.Tests.{zeros};
 ghost use Rattle.solver.specs.Ties.{ContextRead, Started, TableRead, counts_read, form_read, row_read};
 
 use crate::context::Context;

@@ -2,10 +2,9 @@
 ghost use Rattle.std.specs.Prelude.{◌≡◌, ◌+◌, ◌^◌, ◌<◌, ◌≤◌, [], ◌∷◌, ◌++◌, map, slice_index_or, unsigned_abs};
 ghost use Rattle.base.specs.Numbers.{AllWithin, at};
 ghost use Rattle.tableau.specs.Rows.{Sound};
-ghost use Rattle.tableau.specs.Tables.{Ready, in_use, no_row, top};
+ghost use Rattle.tableau.specs.Tables.{in_use, no_row, Ready, rest, top, unit_row, unit_rows};
 ghost use Rattle.solver.specs.Bounds.{in_force};
-ghost use Rattle.solver.specs.Tests.{test_row, unit_row, unit_rows};
-ghost use Rattle.solver.specs.Ties.{rest};
+ghost use Rattle.solver.specs.Tests.{test_row};
 
 use crate::context::Context;
 use base::form::{CONSTANT, FIRST_NEW, Form};

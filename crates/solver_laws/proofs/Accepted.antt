@@ -8,7 +8,8 @@ use Rattle.source.specs.Systems.{System}
 use Rattle.tree.specs.Trees.{Tree}
 use Rattle.solver.specs.declared.count.Count.{Count}
 use Rattle.solver.specs.Solves.{and_then, fuel_fits, run, solved, start, system_fits}
-use Rattle.solver_laws.proofs.FuelRange.{first, limits}
+use Rattle.solver_laws.proofs.FuelRange.{first}
+use Rattle.solver.specs.Ties.{limits}
 
 -- ---- one check after another
 pub then-first : {A : Type 0} (a : Result (Unit {0}) Refusal) (r : Result A Refusal) (v : A) → and_then a r ≡ Ok v → a ≡ Ok tt

@@ -12,7 +12,8 @@ use Rattle.solver_laws.specs.Contexts.{AcceptedMet, ContextLaws, EmptyRefused, R
 use Rattle.solver_laws.specs.Meaning.{HasSetting}
 use Rattle.solver_laws.proofs.Accepted.{Counted, counted, run_of, system-fits}
 use Rattle.solver_laws.proofs.Closed.{no-path}
-use Rattle.solver_laws.proofs.FuelRange.{first, limits}
+use Rattle.solver_laws.proofs.FuelRange.{first}
+use Rattle.solver.specs.Ties.{limits}
 use Rattle.solver_laws.proofs.Least.{setting-is}
 use Rattle.solver_laws.proofs.Signs.{sign-right}
 use Rattle.solver_laws.proofs.Spent.{Others, others-fuel, others-system}

@@ -11,7 +11,8 @@ use Rattle.tableau_laws.proofs.Rows.{of_either, shape_of, shaped-more, shaped-pi
 use Rattle.tableau_laws.proofs.Unused.{lower-unused, new-unused, pivoted-unused, plain-unused, unused-more, unused-of, upper-unused}
 use Rattle.solver.specs.Rules.{Work, where_form}
 use Rattle.solver_laws.specs.Places.{AllUse, Spare, Uses}
-use Rattle.solver_laws.proofs.Induction.{new_work, plain_work, rows_in, turned_work}
+use Rattle.solver_laws.proofs.Induction.{new_work, plain_work, rows_in}
+use Rattle.solver.proofs.Turning.{turned_work}
 use Rattle.solver_laws.proofs.Places.{all_append, all-later, spare-later, spare-not-nine, spare-other}
 
 pub record Formed (s : Work) : Type 0 where

@@ -13,7 +13,8 @@ use Rattle.solver.specs.Solves.{and_then, fuel_fits, run, solved, start, system_
 use Rattle.solver_laws.specs.Fuel.{Enough, FuelLaw, LessSpent, MoreRefused, Spent, TooLittle}
 use Rattle.solver_laws.proofs.Closed.{of_words}
 use Rattle.solver_laws.proofs.Inside.{within-fuel}
-use Rattle.solver_laws.proofs.FuelRange.{first, fits_in, fits-ok, fits_out, limits}
+use Rattle.solver_laws.proofs.FuelRange.{first, fits_in, fits-ok, fits_out}
+use Rattle.solver.specs.Ties.{limits}
 use Rattle.solver_laws.proofs.Metered.{Fuelled, Metered, metered-fail, metered-words, same-refusal}
 use Rattle.solver_laws.proofs.Spent.{spent-whole}
 

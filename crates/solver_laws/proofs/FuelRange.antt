@@ -4,11 +4,7 @@ use Rattle.std.proofs.lemmas.Bool.{and_from, and_parts, and_right, le-leb, leb-t
 use Rattle.base.specs.declared.refusal.Refusal.{Refusal}
 use Rattle.base.specs.declared.refusal.Refusal.TheVariants.{Fuel}
 use Rattle.solver.specs.declared.count.Count.{Count}
-use Rattle.solver.specs.Runs.{Limits}
 use Rattle.solver.specs.Solves.{fuel_fits}
-
-abbrev pub limits : ℕ → ℕ → Limits
-limits f room = record { fuel = f; room = room }
 
 abbrev pub first : Count
 first = record { steps = 0; nodes = 0 }

@@ -1,9 +1,8 @@
 -- A setting parted into the places in use and the others: the value of a form there is that of its row in a test.
 use Rattle.std.proofs.Common.{◌≡◌, ℕ, zero, suc, ◌+◌, ◌-◌, ◌<◌, ◌≤◌, List, [], ◌∷◌, ◌++◌, length, take, drop, ℤ, pos, ◌+ℤ◌, sym, refl, ap, ◌∙◌, inl, inr, arith}
 use Rattle.std.proofs.lemmas.List.{append_assoc, drop-drop, get_or-drop, length-take-le}
-use Rattle.base.specs.Numbers.{at}
+use Rattle.base.specs.Numbers.{at, zeros}
 use Rattle.base.specs.Forms.{dot, value_at}
-use Rattle.algebra.specs.Lists.{zeros}
 use Rattle.algebra.proofs.Ring.{◌⊕◌, ◌⊖◌, ◌⊗◌, num, ring}
 use Rattle.algebra.proofs.Dots.{dot-append, dot-comm, dot-padded, dot-split, dot-zeros}
 use Rattle.tableau_laws.proofs.Settings.{value-constant}

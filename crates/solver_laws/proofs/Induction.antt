@@ -3,6 +3,7 @@ use Rattle.std.proofs.Common.{◌≡◌, ℕ, zero, suc, ◌+◌, Bool, true, fa
 use Rattle.base.specs.declared.refusal.Place.{Place}
 use Rattle.base.specs.declared.refusal.Refusal.TheVariants.{Cuts, FuelSpent, NewParameters}
 use Rattle.base.specs.Numbers.{within}
+use Rattle.solver.proofs.Turning.{plus_row, turned_work}
 use Rattle.tableau.specs.declared.table.Row.{Row}
 use Rattle.tableau.specs.Columns.{entering}
 use Rattle.tableau.specs.Cuts.{cut_of, cut_row, is_constant, lower, upper, whole}
@@ -23,19 +24,12 @@ use Rattle.solver_laws.proofs.Yields.{y-bar, y-bind, y-cond, y-ranged, y-refuse,
 abbrev pub rows_in : Work → List Row
 rows_in s = s.top ++ s.rest
 
--- the work after a pivot, and after a row is added
-abbrev pub turned_work : Row → ℕ → Work → Work
-turned_work i j s = record { top = map (pivoted i j) s.top; rest = map (pivoted i j) s.rest; context = s.context; parameters = s.parameters; made = s.made; cuts = s.cuts }
-
-abbrev pub grown_work : Work → List (List ℤ) → ℕ → Row → Work
-grown_work s context made r = record { top = s.top; rest = s.rest ++ r ∷ []; context = context; parameters = s.parameters; made = made; cuts = suc s.cuts }
-
 -- after a cut, without and with a new parameter
 abbrev pub plain_work : Work → Row → Work
-plain_work s r = grown_work s s.context s.made (cut_row (cut_of r) None)
+plain_work s r = plus_row s s.context s.made (cut_row (cut_of r) None)
 
 abbrev pub new_work : Work → Row → Work
-new_work s r = grown_work s (s.context ++ (lower (cut_of r) (4 + s.made) ∷ (upper (cut_of r) (4 + s.made) ∷ []))) (suc s.made) (cut_row (cut_of r) (Some (4 + s.made)))
+new_work s r = plus_row s (s.context ++ (lower (cut_of r) (4 + s.made) ∷ (upper (cut_of r) (4 + s.made) ∷ []))) (suc s.made) (cut_row (cut_of r) (Some (4 + s.made)))
 
 -- each row's form has this sign
 abbrev pub AllSigned : (List ℤ → Sign → Type 0) → List Row → Type 0
@@ -109,11 +103,11 @@ module _ (X : Type 0) (w : Way) (I : Work → X → Type 0) (V : Work → X → 
   added-sound s x i (Some j) e m q = turn-sound s x i j e m q
 
   -- P is what is wanted of the tree in the end
-  row-sound : (s : Work) (context : List (List ℤ)) (made : ℕ) (r : Row) (P : Tree → Type 0) → (fits r ≡ true → (x : X) × I (grown_work s context made r) x × ((t : Tree) → R (grown_work s context made r) x t → P t)) → Yields P (with_row w.place again s context made r)
+  row-sound : (s : Work) (context : List (List ℤ)) (made : ℕ) (r : Row) (P : Tree → Type 0) → (fits r ≡ true → (x : X) × I (plus_row s context made r) x × ((t : Tree) → R (plus_row s context made r) x t → P t)) → Yields P (with_row w.place again s context made r)
   unfolding with_row
   row-sound s context made r P h =
       y-seq _ _ _ _ (y-ranged w.place _)
-      (λ _ fit. let o = h fit in y-weaken _ _ _ o.2 (added-sound (grown_work s context made r) o.0 r (entering s.top r) o.1 (in_right r s.top (s.rest ++ r ∷ []) (in_right r s.rest (r ∷ []) (inl refl))) refl))
+      (λ _ fit. let o = h fit in y-weaken _ _ _ o.2 (added-sound (plus_row s context made r) o.0 r (entering s.top r) o.1 (in_right r s.top (s.rest ++ r ∷ []) (in_right r s.rest (r ∷ []) (inl refl))) refl))
 
   plain-sound : (s : Work) (x : X) (r : Row) → I s x → In r (rows_in s) → is_constant (cut_of r) ≡ true → Yields (R s x) (cut_plain w.place again s (cut_of r))
   unfolding cut_plain

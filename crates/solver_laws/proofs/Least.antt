@@ -1,14 +1,12 @@
 -- Every solve is right.
-use Rattle.std.proofs.Common.{◌≡◌, ℕ, ◌+◌, ◌-◌, Bool, true, false, List, map, length, ℤ, pos, nat_abs, sym, ◌∙◌, subst, arith}
+use Rattle.std.proofs.Common.{◌≡◌, ℕ, ◌+◌, ◌-◌, Bool, true, false, List, map, length, ℤ, pos, nat_abs, ◌∙◌, arith}
 use Rattle.std.proofs.lemmas.List.{length-append, length-map}
 use Rattle.base.specs.declared.refusal.Refusal.TheVariants.{NoParameterPoint}
-use Rattle.algebra.specs.Lists.{zeros}
+use Rattle.base.specs.Numbers.{zeros}
 use Rattle.algebra.proofs.Dots.{length-zeros}
 use Rattle.algebra.proofs.Naturals.{nonneg-append, nonneg_pos, nonneg-zeros}
 use Rattle.source.specs.Systems.{MeetsContext, System}
-use Rattle.tableau.specs.declared.table.Row.{Row}
 use Rattle.tableau_laws.specs.Facts.{Right}
-use Rattle.tableau_laws.specs.Lines.{Unused}
 use Rattle.tableau_laws.proofs.Start.{start_right}
 use Rattle.tree.specs.Answers.{answer_from, setting}
 use Rattle.solver.specs.Rules.{Work}
@@ -16,19 +14,19 @@ use Rattle.solver.specs.Solves.{begun, row_of, rows_of, run, start}
 use Rattle.solver_laws.specs.Least.{LeastPoint}
 use Rattle.solver_laws.specs.Meaning.{Setting, Yields}
 use Rattle.solver_laws.proofs.Accepted.{Counted, counted, run_of, system-fits}
-use Rattle.solver_laws.proofs.FuelRange.{first, limits}
+use Rattle.solver_laws.proofs.FuelRange.{first}
+use Rattle.solver.specs.Ties.{limits}
 use Rattle.solver_laws.proofs.Formed.{Formed}
 use Rattle.solver_laws.proofs.Nodes.{Answers, Good, node-right}
 use Rattle.solver_laws.proofs.Systems.{context-uses, lines_at, meets-setting, right_answer, rows-free, rows-plain, rows-shaped}
-use Rattle.solver_laws.proofs.Tests.{units-constant, units-same}
+use Rattle.solver_laws.proofs.Tests.{units-constant}
 use Rattle.solver_laws.proofs.Yields.{y-any, y-bind, y-fail, y-then}
 
 -- ---- the work that a solve starts from
 start-table : (S : System) → Counted S → (ρ : List ℤ) → Right S.n (lines_at S ρ) ρ (start S).top (start S).rest
 start-table S k ρ =
     let rest = map (row_of S.n S.p) (rows_of S) in
-    subst (λ (rs : List Row). Right S.n (lines_at S ρ) ρ rs rest) (sym (units-same 0 S.n))
-    (start_right S.n ρ rest (omega (arith, k.unknowns_most)) (rows-shaped S.n S.p S.rows (omega (arith, k.unknowns_most)) k.parameters_most) (rows-plain S.n S.p S.rows))
+    start_right S.n ρ rest (omega (arith, k.unknowns_most)) (rows-shaped S.n S.p S.rows (omega (arith, k.unknowns_most)) k.parameters_most) (rows-plain S.n S.p S.rows)
 
 pub start-formed : (S : System) → Counted S → Formed (start S)
 start-formed S k =
@@ -39,7 +37,7 @@ start-formed S k =
       context = context-uses S.p 0 S.context k.parameters_most;
       top_shaped = r.top_shaped;
       rest_shaped = r.rest_shaped;
-      top_free = λ q h. subst (Unused q) (sym (units-same 0 S.n)) (units-constant 0 S.n q);
+      top_free = λ q h. units-constant 0 S.n q;
       rest_free = λ q h. rows-free S.n S.p 0 q S.rows k.parameters_most h;
     }
 

@@ -8,14 +8,14 @@ use Rattle.base.specs.declared.refusal.Refusal.{Refusal}
 use Rattle.base.specs.declared.refusal.Refusal.TheVariants.{Depth, NoParameterPoint}
 use Rattle.source.specs.Limits.{counts_answer, first_outside, numbers_answer, refused_at}
 use Rattle.source.proofs.Numbers.{none-outside}
-use Rattle.algebra.specs.Lists.{zeros}
 use Rattle.base.specs.Forms.{opposite}
-use Rattle.base.specs.Numbers.{AllWithin, at, quot_by}
+use Rattle.base.specs.Numbers.{all_zero, AllWithin, at, is_zero, quot_by, zeros}
+use Rattle.base.proofs.Ranges.{within-append, within-set}
 use Rattle.tableau.specs.declared.table.Row.{Row}
 use Rattle.tableau.specs.Columns.{Enters, entering}
-use Rattle.tableau.specs.Cuts.{cut_of, cut_row, cut_form, is_constant, is_zero, none_of}
+use Rattle.tableau.specs.Cuts.{cut_of, cut_row, cut_form, is_constant}
 use Rattle.tableau.specs.Rows.{Sound as SoundRow, fits, pivoted}
-use Rattle.tableau.specs.Tables.{all_fit}
+use Rattle.tableau.specs.Tables.{all_fit, unit_row, unit_rows}
 use Rattle.tableau.proofs.CutRanges.{cut-sound}
 use Rattle.tableau.proofs.Entering.{enters}
 use Rattle.tableau.proofs.Lowest.{lowest-sound}
@@ -30,17 +30,18 @@ use Rattle.tree.specs.Trees.{Tree, split}
 use Rattle.solver.specs.declared.sign.Sign.{Sign}
 use Rattle.solver.specs.Runs.{Run}
 use Rattle.solver.specs.Rules.{Work, branch, branches, node, plenty, solving, where_form}
-use Rattle.solver.specs.Tests.{unit_row, unit_rows}
 use Rattle.solver.specs.Solves.{begun, fitted, form_of, numbers_fit, row_of, rows_of, run, start}
-use Rattle.solver.proofs.Keeping.{quots-within, sound-one, within-drop, within-set, within-zeros}
-use Rattle.solver.proofs.Starting.{length-units}
+use Rattle.solver.proofs.Keeping.{quots-within, sound-one, within-drop, within-zeros}
+use Rattle.tableau.proofs.Units.{length-units}
 use Rattle.solver_laws.specs.Limits.{TreeLimits}
 use Rattle.solver_laws.specs.Meaning.{Yields}
 use Rattle.solver_laws.specs.Places.{Spare, Uses}
 use Rattle.solver_laws.proofs.Accepted.{counted, run_of, system-fits, then-first, then-second}
-use Rattle.solver_laws.proofs.FuelRange.{first, limits}
+use Rattle.solver_laws.proofs.FuelRange.{first}
+use Rattle.solver.specs.Ties.{limits}
 use Rattle.solver_laws.proofs.Formed.{Formed, formed-new, formed-plain, formed-turn, formed-where, row-shape, row-uses}
-use Rattle.solver_laws.proofs.Induction.{Sound, rows_in, settle-sound, turned_work}
+use Rattle.solver_laws.proofs.Induction.{Sound, rows_in, settle-sound}
+use Rattle.solver.proofs.Turning.{turned_work}
 use Rattle.solver_laws.proofs.Least.{start-formed}
 use Rattle.solver_laws.proofs.Nodes.{made-less}
 use Rattle.solver_laws.proofs.Places.{opposite-uses}
@@ -96,12 +97,12 @@ leaves-fit p made [] h u s = tt
 leaves-fit p made (r ∷ rs) h u s = (quotient_fits p made r (record { ten = h.1; free = λ q k. (u q k).0 }) s.0, leaves-fit p made rs h.2 (λ q k. (u q k).1) s.1)
 
 -- a coefficient that is not 0
-named-place : (n : ℕ) (xs : List ℤ) → none_of (take n xs) ≡ false → (l : ℕ) × (l < n) × (at xs l ≢ pos 0)
+named-place : (n : ℕ) (xs : List ℤ) → all_zero (take n xs) ≡ false → (l : ℕ) × (l < n) × (at xs l ≢ pos 0)
 named-place zero xs e = apart refl e
 named-place (suc n) [] e = apart refl e
 named-place (suc n) (x ∷ xs) e = go (named-place n xs) (is_zero x) refl e
   where
-    go : (none_of (take n xs) ≡ false → (l : ℕ) × (l < n) × (at xs l ≢ pos 0)) → (b : Bool) → is_zero x ≡ b → (b && none_of (take n xs)) ≡ false → (l : ℕ) × (l < suc n) × (at (x ∷ xs) l ≢ pos 0)
+    go : (all_zero (take n xs) ≡ false → (l : ℕ) × (l < n) × (at xs l ≢ pos 0)) → (b : Bool) → is_zero x ≡ b → (b && all_zero (take n xs)) ≡ false → (l : ℕ) × (l < suc n) × (at (x ∷ xs) l ≢ pos 0)
     go ih true z k = let m = ih k in (suc m.0, omega (arith, m.1), m.2)
     go ih false z k = (0, omega arith, λ o. apart (ap is_zero o) z)
 
@@ -197,11 +198,6 @@ module _ (n : ℕ) where
       settle-sound (Unit {0}) _ Ranged Any (Fits (suc left)) (solving-fits (suc left) _ (branches-fit left (node left) ih)) plenty s tt g
 
 -- ---- the work that a solve starts from
-within-append : (m : ℕ) (xs ys : List ℤ) → AllWithin m xs → AllWithin m ys → AllWithin m (xs ++ ys)
-within-append m [] ys a b k = b k
-within-append m (x ∷ xs) ys a b zero = a 0
-within-append m (x ∷ xs) ys a b (suc k) = within-append m xs ys (λ l. a (suc l)) b k
-
 within-take : (m n : ℕ) (xs : List ℤ) → AllWithin m xs → AllWithin m (take n xs)
 within-take m zero xs a k = omega arith
 within-take m (suc n) [] a k = omega arith

@@ -10,7 +10,7 @@ use Rattle.base.specs.declared.refusal.Refusal.TheVariants.{FuelSpent, WorkFull}
 use Rattle.solver.specs.declared.count.Count.{Count}
 use Rattle.solver.specs.Runs.{Limits, Outcome, Run, bar, fail, met_at, next, noted, refuse, return, stepped, tick, write, ◌>>=◌, ◌>>◌}
 use Rattle.solver_laws.proofs.Closed.{Words}
-use Rattle.solver_laws.proofs.FuelRange.{limits}
+use Rattle.solver.specs.Ties.{limits}
 
 abbrev pub IsSpent : Refusal → Type 0
 IsSpent e = (m : Met) × (e ≡ FuelSpent m)

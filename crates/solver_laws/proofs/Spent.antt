@@ -14,7 +14,8 @@ use Rattle.solver.specs.Runs.{Limits, Outcome, Run, bar, fail, met_at, next, not
 use Rattle.solver.specs.Rules.{plenty}
 use Rattle.solver.specs.Solves.{and_then, fitted, fuel_fits, numbers_fit, rows_of, run, solved, start, system_fits}
 use Rattle.solver_laws.specs.Fuel.{SpentWhole}
-use Rattle.solver_laws.proofs.FuelRange.{first, fits-ok, limits}
+use Rattle.solver_laws.proofs.FuelRange.{first, fits-ok}
+use Rattle.solver.specs.Ties.{limits}
 use Rattle.solver_laws.proofs.Closed.{Grows, Other, Passes, Roots, no-path, of-run}
 
 -- an outcome from s steps on: steps only grow, and fuel is spent only where every step is made

@@ -1,11 +1,13 @@
 -- A system's rows as rows of the table: the same points, and the same parameter points.
 use Rattle.std.proofs.Common.{◌≡◌, ℕ, zero, suc, ◌+◌, ◌-◌, ◌<◌, ◌≤◌, List, [], ◌∷◌, ◌++◌, map, length, take, drop, ℤ, pos, ◌+ℤ◌, ◌*ℤ◌, nat_abs, Some, None, Option, sym, refl, ap, ◌∙◌, subst, inl, inr, arith}
 use Rattle.std.proofs.lemmas.List.{append_assoc, get_or_append_left, get_or-append_right, get_or-drop, length-append, length-drop, length-map, length-take-le, take-append-drop}
-use Rattle.base.specs.Numbers.{at}
+use Rattle.base.specs.Numbers.{at, zeros}
 use Rattle.base.specs.Forms.{dot, value_at}
-use Rattle.algebra.specs.Lists.{NonNeg, zeros}
+use Rattle.algebra.specs.Lists.{NonNeg}
 use Rattle.algebra.specs.Orders.{LexLe}
-use Rattle.algebra.proofs.Dots.{at-zeros, dot-append, dot-comm, dot-nil, dot-padded, dot-zeros, length-zeros}
+use Rattle.algebra.proofs.Dots.{dot-append, dot-comm, dot-padded, dot-zeros, length-zeros}
+use Rattle.base.proofs.Values.{dot-nil}
+use Rattle.base.proofs.Zeros.{at-zeros}
 use Rattle.algebra.proofs.Naturals.{nonneg_pos, pos-sizes}
 use Rattle.algebra.proofs.Precedes.{lex-precedes}
 use Rattle.algebra.proofs.Ring.{◌⊕◌, ◌⊗◌, num, ring}

@@ -4,10 +4,11 @@ use borrow.Author.Differences.{ints}
 use Rattle.std.proofs.lemmas.List.{drop-drop, get_or-append_right, get_or-drop, get_or-set_other, length-append, length-drop, length-take-le, take-append-drop}
 use Rattle.base.specs.declared.refusal.Place.TheVariants.{Test}
 use Rattle.base.specs.declared.refusal.Refusal.TheVariants.{FuelSpent}
-use Rattle.base.specs.Numbers.{at}
+use Rattle.base.specs.Numbers.{at, zeros}
 use Rattle.base.specs.Forms.{value_at}
-use Rattle.algebra.specs.Lists.{NonNeg, zeros}
-use Rattle.algebra.proofs.Dots.{at-zeros, dot-zeros, length-zeros}
+use Rattle.algebra.specs.Lists.{NonNeg}
+use Rattle.algebra.proofs.Dots.{dot-zeros, length-zeros}
+use Rattle.base.proofs.Zeros.{at-zeros}
 use Rattle.algebra.proofs.Naturals.{nonneg-append, nonneg-zeros}
 use Rattle.algebra.proofs.Ring.{◌⊕◌, num, ring}
 use Rattle.tableau.specs.declared.table.Row.{Row}
@@ -16,7 +17,7 @@ use Rattle.tableau.specs.Cuts.{cut_of, cut_row, first_fraction, is_constant, who
 use Rattle.tableau_laws.specs.Ends.{NoPoint, NonNegAt}
 use Rattle.tableau_laws.specs.Facts.{Point, Right, Satisfied}
 use Rattle.tableau_laws.specs.Lines.{In, Line, Shaped, Unused, under}
-use Rattle.tableau_laws.specs.Start.{Plain, unit_rows as start_rows}
+use Rattle.tableau_laws.specs.Start.{Plain}
 use Rattle.tableau_laws.proofs.CutKeeps.{cut_keeps}
 use Rattle.tableau_laws.proofs.Leaves.{leaf-right, none_right}
 use Rattle.tableau_laws.proofs.Pivots.{pivot-keeps, shape-in}
@@ -25,13 +26,16 @@ use Rattle.tableau_laws.proofs.Start.{start_right}
 use Rattle.tableau_laws.proofs.Unused.{constant-cut, pivoted-unused, plain-unused, unused-more, unused-of}
 use Rattle.tree.specs.Trees.{Tree}
 use Rattle.solver.specs.declared.sign.Sign.{Sign}
-use Rattle.solver.specs.Tests.{test_row, unit_row, unit_rows}
+use Rattle.solver.specs.Tests.{test_row}
+use Rattle.tableau.specs.Tables.{unit_rows}
 use Rattle.solver.specs.Rules.{Work, fraction, has_point, plenty, sign_of, test, test_work, testing}
+use Rattle.solver.proofs.Starting.{test-width}
 use Rattle.solver_laws.specs.Meaning.{HasSetting, Meets, Setting, SignOf, Yields}
 use Rattle.solver_laws.specs.Places.{AllUse}
 use Rattle.solver_laws.proofs.Yields.{y-bind, y-refuse, y-return}
 use Rattle.solver_laws.proofs.Gathers.{dot_at, dot-one, gathered}
-use Rattle.solver_laws.proofs.Induction.{AllSigned, Sound, plain_work, rows_in, settle-sound, turned_work}
+use Rattle.solver_laws.proofs.Induction.{AllSigned, Sound, plain_work, rows_in, settle-sound}
+use Rattle.solver.proofs.Turning.{turned_work}
 
 -- ---- what the ends of the work ask for
 pub all-nonneg : (ρ : List ℤ) (rs : List Row) → AllSigned (λ C g. SignOf (value_at C ρ) g) rs → NonNegAt ρ rs
@@ -108,11 +112,7 @@ module _ (n : ℕ) (sys : List Line) where
   }
 
 -- ---- the table that a test starts from
-pub units-same : (h k : ℕ) → unit_rows h k ≡ start_rows h k
-units-same h zero = refl
-units-same h (suc k) = ap (λ (rs : List Row). unit_row h ∷ rs) (units-same (suc h) k)
-
-pub units-constant : (h k q : ℕ) → Unused q (start_rows h k)
+pub units-constant : (h k q : ℕ) → Unused q (unit_rows h k)
 units-constant h zero q = tt
 units-constant h (suc k) q = (at-zeros 10 q, units-constant (suc h) k q)
 
@@ -122,16 +122,7 @@ module _ (p made : ℕ) (few : p ≤ 4) (new : made ≤ 5) where
 
   rows-shaped : (forms : List (List ℤ)) → AllUse p made forms → Shaped (map (test_row p made) forms)
   rows-shaped [] u = tt
-  rows-shaped (C ∷ forms) u = (wide, refl, rows-shaped forms u.1)
-    where
-      wide : length (test_row p made C).coefs ≡ 9
-      wide =
-          let ten = u.0.ten in
-          let a : length (take p C) ≡ p = length-take-le p C (omega (arith, ten)) in
-          let d : length (drop 4 C) ≡ 6 = length-drop 4 C ∙ rw ten refl in
-          let b : length (take made (drop 4 C)) ≡ made = length-take-le made (drop 4 C) (omega (arith, d)) in
-          let z : length (zeros (9 - (p + made))) ≡ 9 - (p + made) = length-zeros (9 - (p + made)) in
-          length-append (take p C) (take made (drop 4 C) ++ zeros (9 - (p + made))) ∙ rw (a, length-append (take made (drop 4 C)) (zeros (9 - (p + made))), b, z) (omega arith)
+  rows-shaped (C ∷ forms) u = (test-width p made C few new u.0.ten, refl, rows-shaped forms u.1)
 
   rows-plain : (forms : List (List ℤ)) → AllUse p made forms → Plain (p + made) (map (test_row p made) forms)
   rows-plain [] u = tt
@@ -153,10 +144,9 @@ module _ (p made : ℕ) (few : p ≤ 4) (new : made ≤ 5) where
 
   test-start : (forms : List (List ℤ)) → AllUse p made forms → Tested (p + made) (lines forms) (test_work p made forms) tt
   test-start forms u =
-      let same = units-same 0 (p + made) in
       record {
-        right = subst (λ (rs : List Row). Right (p + made) (lines forms) (zeros 9) rs (map (test_row p made) forms)) (sym same) (start_right (p + made) (zeros 9) (map (test_row p made) forms) (omega arith) (rows-shaped forms u) (rows-plain forms u));
-        top-constant = λ q lt. subst (Unused q) (sym same) (units-constant 0 (p + made) q);
+        right = start_right (p + made) (zeros 9) (map (test_row p made) forms) (omega arith) (rows-shaped forms u) (rows-plain forms u);
+        top-constant = λ q lt. units-constant 0 (p + made) q;
         rest-constant = rows-constant forms;
       }
 

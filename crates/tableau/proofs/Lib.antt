@@ -1,5 +1,7 @@
 pub mod Bits
 pub mod Integers
+pub mod Units
+pub mod Parts
 pub mod Searches
 pub mod Entering
 pub mod CutRanges

@@ -1,13 +1,14 @@
 -- Rows in lowest terms.
-use Rattle.std.proofs.Common.{◌≡◌, ℕ, zero, suc, ◌*◌, ◌/◌, ◌^◌, ◌<◌, ◌≤◌, true, ◌&&◌, List, [], ◌∷◌, map, ℤ, pos, negsuc, nat_abs, ◌≤ℤ◌, ◌<ℤ◌, sym, ap, ◌∙◌, subst, mul-one, arith}
+use Rattle.std.proofs.Common.{◌≡◌, ℕ, ◌*◌, ◌/◌, ◌^◌, ◌<◌, ◌≤◌, true, ◌&&◌, List, map, ℤ, pos, negsuc, nat_abs, ◌≤ℤ◌, ◌<ℤ◌, sym, ap, ◌∙◌, subst, mul-one, arith}
 use Prim.Native.Nat.{◌∣◌}
 use native.Mathlib.Nat.{dvd_trans, dvd_of_mul-dvd-mul_left, eq-one_of_dvd-one, mul-div_cancel'}
 use Rattle.std.proofs.lemmas.Nat.{le-div}
 use Rattle.std.proofs.lemmas.Int.{ints}
 use Rattle.std.proofs.lemmas.Bool.{and_parts, leb-true}
-use Rattle.base.specs.Numbers.{AllWithin, gcds, in_range, quot_by, within}
+use Rattle.base.specs.Numbers.{gcds, in_range, quot_by, within}
 use Rattle.base.proofs.Divisors.{all-times-cancel, all-times-divided, divides-all-less, divides-by-size, quot-divides, quot-one, quot-times, quots-divide, quots-one, quots-times, size-divided, times-cancel, times-divided, times-quot, times-quots}
 use Rattle.base.proofs.Gcds.{gcds-bounds, gcds-divides, gcds-divides-all, gcds-greatest}
+use Rattle.base.proofs.Ranges.{all-within}
 use Rattle.tableau.specs.declared.table.Row.{Row}
 use Rattle.tableau.specs.Rows.{DividesRow, LowestTerms, Sound, divided_by, fits, gcd_of, lowest, times}
 
@@ -87,11 +88,6 @@ quot_above (negsuc x) g h k = absurd (let no : ⊥ = omega (arith, ints) in no)
 
 pub lowest-above : (r : Row) → pos 0 <ℤ r.div → pos 1 ≤ℤ (lowest r).div
 lowest-above r h = let b = gcd_of-bounds r h in quot_above r.div (pos (gcd_of r)) (omega (arith, ints, b.0)) (omega (arith, ints, b.1))
-
-pub all-within : (xs : List ℤ) → within xs ≡ true → AllWithin (2 ^ 30) xs
-all-within [] e k = omega arith
-all-within (x ∷ xs) e zero = leb-true (nat_abs x) (2 ^ 30) (and_parts (in_range x) (within xs) e).0
-all-within (x ∷ xs) e (suc k) = all-within xs (and_parts (in_range x) (within xs) e).1 k
 
 pub lowest-sound : (r : Row) → pos 0 <ℤ r.div → fits (lowest r) ≡ true → Sound (lowest r)
 lowest-sound r h f =

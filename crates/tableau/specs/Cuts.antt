@@ -1,15 +1,10 @@
 -- Cuts, and the new parameters that they may need.
-use Rattle.std.specs.Prelude.{ℕ, zero, suc, ◌+◌, ◌^◌, Bool, true, false, cond, List, [], ◌∷◌, map, take, ℤ, pos, negsuc, ◌+ℤ◌, ◌-ℤ◌, neg_ℤ, ◌≤ℤ◌, ◌<ℤ◌, Some, None, Option, slice_set}
+use Rattle.std.specs.Prelude.{ℕ, ◌+◌, ◌^◌, Bool, cond, List, [], ◌∷◌, map, take, ℤ, pos, ◌+ℤ◌, ◌-ℤ◌, neg_ℤ, ◌≤ℤ◌, ◌<ℤ◌, Some, None, Option, slice_set}
 use Rattle.std.specs.List.{list_all}
-use Rattle.base.specs.Numbers.{at, mod_by}
+use Rattle.base.specs.Numbers.{all_zero, at, is_zero, mod_by}
 use Rattle.tableau.specs.declared.table.Row.{Row}
 use Rattle.tableau.specs.declared.cut_numbers.Cut.{Cut}
 use Rattle.tableau.specs.Rows.{lowest}
-
-abbrev pub is_zero : ℤ → Bool
-is_zero (pos zero) = true
-is_zero (pos (suc n)) = false
-is_zero (negsuc n) = false
 
 -- d divides each number
 abbrev pub whole_by : ℤ → List ℤ → Bool
@@ -37,11 +32,8 @@ abbrev pub cut_of : Row → CutNumbers
 cut_of r = record { coefs = map (mod_by r.div) r.coefs; form = map (mod_by r.div) (map neg_ℤ r.form); div = r.div }
 
 -- T names no parameter
-abbrev pub none_of : List ℤ → Bool
-none_of xs = list_all is_zero xs
-
 abbrev pub is_constant : CutNumbers → Bool
-is_constant c = none_of (take 9 c.form)
+is_constant c = all_zero (take 9 c.form)
 
 -- -T, or -T + d × q where the new parameter q has a place
 abbrev pub cut_form : CutNumbers → Option ℕ → List ℤ

@@ -1,8 +1,8 @@
 //! Cuts: a row that the whole-number points still meet, and the fractional corner does not.
 ghost use Rattle.std.specs.Prelude.{◌≡◌, ◌^◌, ◌<◌, take, IfSome};
-ghost use Rattle.base.specs.Numbers.{AllWithin};
+ghost use Rattle.base.specs.Numbers.{all_zero, AllWithin};
 ghost use Rattle.tableau.specs.Rows.{Sound};
-ghost use Rattle.tableau.specs.Cuts.{cut_of, cut_row, first_fraction, is_constant, lower, none_of, numbers, upper, whole};
+ghost use Rattle.tableau.specs.Cuts.{cut_of, cut_row, first_fraction, is_constant, lower, numbers, upper, whole};
 ghost use Rattle.tableau.specs.Tables.{Ready, top};
 
 pub use crate::cut_numbers::Cut;
@@ -50,7 +50,7 @@ pub fn cut_of(row: &Row) -> Cut
 
 /// Whether the form names no parameter.
 pub fn names_no_parameter(form: &Form) -> bool
-    ensures { result ≡ none_of (take 9 form.now) }
+    ensures { result ≡ all_zero (take 9 form.now) }
 {
     form[..CONSTANT].iter().all(|x| *x == 0)
 }

@@ -2,10 +2,11 @@
 use Rattle.std.proofs.Common.{◌≡◌, ℕ, zero, suc, ◌<◌, true, List, [], ◌∷◌, ◌++◌, map, length, take, ℤ, pos, negsuc, ◌+ℤ◌, ◌-ℤ◌, ◌*ℤ◌, neg_ℤ, ◌≤ℤ◌, ◌<ℤ◌, Some, None, sym, refl, ap, ◌∙◌, arith, length-set, get_or-set_other}
 use borrow.Author.Differences.{ints}
 use Rattle.std.proofs.lemmas.List.{length-map}
-use Rattle.base.specs.Numbers.{at, floor_by, mod_by, modulo}
+use Rattle.base.specs.Numbers.{all_zero, at, floor_by, mod_by, modulo}
 use Rattle.base.specs.Forms.{dot, value_at}
+use Rattle.algebra.proofs.Integers.{neg-l}
 use Rattle.tableau.specs.declared.table.Row.{Row}
-use Rattle.tableau.specs.Cuts.{cut_form, cut_of, cut_row, lower, none_of, upper}
+use Rattle.tableau.specs.Cuts.{cut_form, cut_of, cut_row, lower, upper}
 use Rattle.algebra.specs.Lists.{NonNeg}
 use Rattle.algebra.proofs.Ring.{◌⊕◌, ◌⊖◌, ◌⊗◌, num, ring, ⊝◌}
 use Rattle.algebra.proofs.Claims.{given, goal, ring-from}
@@ -51,7 +52,7 @@ length_cut r = length-map (map neg_ℤ r.form) (mod_by r.div) ∙ length-map r.f
 pub plain-cut : CutNatural
 plain-cut ρ r y v f n h c ny e =
     let T = (cut_of r).form in
-    let none : none_of (take (length ρ) T) ≡ true = ap (λ k. none_of (take k T)) n ∙ c in
+    let none : all_zero (take (length ρ) T) ≡ true = ap (λ k. all_zero (take k T)) n ∙ c in
     let k = cut-value ρ r y v (pos 0) h ny e (small (value_at T ρ) (at T (length ρ)) r.div (value_none T ρ (omega (arith, length_cut r, f, n)) none) (at-mods r.div (map neg_ℤ r.form) (length ρ) h)) in
     (k.0, lowest-says ρ (record { coefs = (cut_of r).coefs; form = cut_form (cut_of r) None; div = r.div }) y (pos k.0) h (k.1 ∙ ap (λ z. dot (cut_of r).coefs y +ℤ z) (tidy (value_at T ρ) r.div ∙ sym (dot-negs T (ρ ++ (pos 1 ∷ []))))))
   where
@@ -92,12 +93,9 @@ module _ (ρ : List ℤ) (r : Row) (q : ℕ) (form : length r.form ≡ 10) (n : 
   -- T - d × q and -T + d × q + d - 1 are at least 0
   pub lower-holds : pos 0 ≤ℤ value_at (lower (cut_of r) q) (gained (cut_of r) q ρ)
   lower-holds =
-      rw (value-used (cut_of r).form ρ q (neg_ℤ r.div) (new_value (cut_of r) ρ) (mod-unused r.div r.form q free) (omega (arith, wide)) (omega (arith, n)), minus r.div (new_value (cut_of r) ρ))
+      rw (value-used (cut_of r).form ρ q (neg_ℤ r.div) (new_value (cut_of r) ρ) (mod-unused r.div r.form q free) (omega (arith, wide)) (omega (arith, n)), neg-l r.div (new_value (cut_of r) ρ))
       (low (value_at (cut_of r).form ρ) (r.div *ℤ new_value (cut_of r) ρ) (modulo (value_at (cut_of r).form ρ) r.div) rest.is rest.low)
     where
-      minus : (d v : ℤ) → neg_ℤ d *ℤ v ≡ neg_ℤ (d *ℤ v)
-      minus = ring 2 (λ d v. ((⊝ d) ⊗ v, ⊝ (d ⊗ v))) refl
-
       low : (T dq m : ℤ) → T ≡ dq +ℤ m → pos 0 ≤ℤ m → pos 0 ≤ℤ (T +ℤ neg_ℤ dq)
       low T dq m e h = omega (arith, ints)
 

@@ -3,10 +3,12 @@ use Rattle.std.proofs.Common.{◌≡◌, ℕ, suc, List, [], ◌∷◌, length, 
 use borrow.Author.Differences.{ints}
 use lib.IntN.{+ℤ_idl}
 use Rattle.base.specs.Forms.{dot}
-use Rattle.algebra.specs.Lists.{NonNeg, NonPos, products, zeros}
+use Rattle.algebra.specs.Lists.{NonNeg, NonPos, products}
+use Rattle.base.specs.Numbers.{zeros}
+use lib.IntN.{*ℤ-zero}
 use Rattle.algebra.specs.Orders.{LexLe, LexNN}
 use Rattle.algebra.proofs.Integers.{cancel-l, le-mul-cancel, lt-mul-cancel, nonneg-mul}
-use Rattle.algebra.proofs.Ring.{◌⊕◌, ◌⊗◌, num, ring}
+use Rattle.algebra.proofs.Ring.{◌⊕◌, ◌⊗◌, num}
 use Rattle.algebra.proofs.Claims.{given, goal, ring-from}
 use Rattle.algebra.proofs.Dots.{dot-zeros, length-zeros}
 use Rattle.algebra.proofs.Naturals.{dot-nonpos}
@@ -61,11 +63,8 @@ zero-satisfied n (r ∷ sys) (h ∷ rest) X d c l =
     eq : (d D c k : ℤ) → d *ℤ (D +ℤ pos 1 *ℤ c) ≡ pos 0 +ℤ pos 1 *ℤ k → d *ℤ (D +ℤ c) ≡ k
     eq = ring-from 4 (λ d D c k. given (num (pos 1)) (d ⊗ (D ⊕ num (pos 1) ⊗ c)) (num (pos 0) ⊕ num (pos 1) ⊗ k) (goal (d ⊗ (D ⊕ c)) k)) refl
 
-    nought : (d : ℤ) → d *ℤ pos 0 ≡ pos 0
-    nought = ring 1 (λ d. (d ⊗ num (pos 0), num (pos 0))) refl
-
     one : (d D c k : ℤ) → pos 0 <ℤ d → pos 0 ≤ℤ k → d *ℤ (D +ℤ pos 1 *ℤ c) ≡ pos 0 +ℤ pos 1 *ℤ k → pos 0 ≤ℤ (D +ℤ c)
-    one d D c k h g e = le-mul-cancel d (pos 0) (D +ℤ c) h (rw (nought d, eq d D c k e) g)
+    one d D c k h g e = le-mul-cancel d (pos 0) (D +ℤ c) h (rw (*ℤ-zero d, eq d D c k e) g)
 
 -- a point that is reached lies ahead of it by a combination of the columns
 rise : (d x x' c D : ℤ) → d *ℤ x ≡ c → d *ℤ x' ≡ D +ℤ c → pos 0 <ℤ D → (d *ℤ x) <ℤ (d *ℤ x')

@@ -2,16 +2,15 @@
 use Rattle.std.proofs.Common.{◌≡◌, ℕ, ◌+◌, ◌<◌, Bool, true, false, cond, List, [], ◌∷◌, ◌++◌, map, ℤ, pos, negsuc, ◌+ℤ◌, ◌*ℤ◌, ◌<ℤ◌, Some, None, sym, refl, ap, ◌∙◌, subst, arith}
 use borrow.Author.Differences.{ints}
 use Rattle.std.proofs.lemmas.Bool.{and_parts}
-use Rattle.base.specs.Numbers.{DividesAll, floor_div, mod_by, quot_by}
+use Rattle.base.specs.Numbers.{DividesAll, floor_div, is_zero, mod_by, quot_by}
 use Rattle.base.specs.Forms.{dot, value_at}
 use Rattle.base.proofs.Divisors.{quots-times}
 use Rattle.tableau.specs.declared.table.Row.{Row}
 use Rattle.tableau.specs.Columns.{Enters}
-use Rattle.tableau.specs.Cuts.{first_fraction, is_zero, whole, whole_by}
+use Rattle.tableau.specs.Cuts.{first_fraction, whole, whole_by}
 use Rattle.tableau.proofs.Entering.{enters}
 use Rattle.algebra.specs.Lists.{NonNeg}
 use Rattle.algebra.proofs.Integers.{le-mul-cancel}
-use Rattle.algebra.proofs.Ring.{◌⊗◌, num, ring}
 use Rattle.algebra.proofs.Division.{divided}
 use Rattle.algebra.proofs.Dots.{times-dot}
 use Rattle.algebra.proofs.Naturals.{nonpos-at}
@@ -19,7 +18,8 @@ use Rattle.tableau_laws.specs.Lines.{Above, under}
 use Rattle.tableau_laws.specs.Ends.{NonNegAt, leaf_forms}
 use Rattle.tree.specs.Answers.{values_at}
 use Rattle.tableau_laws.specs.Laws.{LeafRight, NoneRight}
-use Rattle.tableau_laws.proofs.Settings.{is-zero}
+use Rattle.base.proofs.Zeros.{is_zero-is}
+use lib.IntN.{*ℤ-zero}
 use Rattle.tableau_laws.proofs.Pivots.{div-in, reached-value, shape-in}
 use Rattle.tableau_laws.proofs.Ends.{AtZero, Constants, none-says, zero-first, zero-point}
 
@@ -37,7 +37,7 @@ whole-divides n [] h e = tt
 whole-divides n (x ∷ xs) h e =
     let p = and_parts (is_zero (mod_by (pos n) x)) (whole_by (pos n) xs) e in
     let d = divided x (pos n) (omega (arith, ints)) in
-    ((floor_div x (pos n), d.is ∙ ap (λ r. pos n *ℤ floor_div x (pos n) +ℤ r) (is-zero (mod_by (pos n) x) p.0) ∙ plus-zero (pos n *ℤ floor_div x (pos n))), whole-divides n xs h p.1)
+    ((floor_div x (pos n), d.is ∙ ap (λ r. pos n *ℤ floor_div x (pos n) +ℤ r) (is_zero-is (mod_by (pos n) x) p.0) ∙ plus-zero (pos n *ℤ floor_div x (pos n))), whole-divides n xs h p.1)
   where
     plus-zero : (z : ℤ) → z +ℤ pos 0 ≡ z
     plus-zero z = omega (arith, ints)
@@ -69,10 +69,7 @@ leaf-zero ρ (r ∷ rs) w d = (whole-value ρ r.div r.form d.0 w.0, leaf-zero ρ
 leaf-natural : (ρ : List ℤ) (rs : List Row) → AllWhole rs → Above (map (under ρ) rs) → NonNegAt ρ rs → NonNeg (values_at ρ (leaf_forms rs))
 leaf-natural ρ [] w d n = tt
 leaf-natural ρ (r ∷ rs) w d n =
-    (le-mul-cancel r.div (pos 0) (value_at (map (quot_by r.div) r.form) ρ) d.0 (rw (nought r.div, whole-value ρ r.div r.form d.0 w.0) n.0), leaf-natural ρ rs w.1 d.1 n.1)
-  where
-    nought : (d : ℤ) → d *ℤ pos 0 ≡ pos 0
-    nought = ring 1 (λ d. (d ⊗ num (pos 0), num (pos 0))) refl
+    (le-mul-cancel r.div (pos 0) (value_at (map (quot_by r.div) r.form) ρ) d.0 (rw (*ℤ-zero r.div, whole-value ρ r.div r.form d.0 w.0) n.0), leaf-natural ρ rs w.1 d.1 n.1)
 
 constants : (ρ : List ℤ) (rs : List Row) → NonNegAt ρ rs → Constants (map (under ρ) rs)
 constants ρ [] n = tt

@@ -1,11 +1,11 @@
 -- Values of forms where one parameter changes.
-use Rattle.std.proofs.Common.{◌≡◌, ℕ, zero, suc, ◌<◌, true, List, [], ◌∷◌, ◌++◌, map, length, take, set, ℤ, pos, negsuc, ◌+ℤ◌, ◌-ℤ◌, ◌*ℤ◌, neg_ℤ, sym, refl, ap, ◌∙◌, arith, get_or-set_same}
+use Rattle.std.proofs.Common.{◌≡◌, ℕ, zero, suc, ◌<◌, true, List, [], ◌∷◌, ◌++◌, map, length, take, set, ℤ, pos, ◌+ℤ◌, ◌-ℤ◌, ◌*ℤ◌, neg_ℤ, sym, refl, ap, ◌∙◌, arith, get_or-set_same}
 use Rattle.std.proofs.lemmas.List.{length-map}
 use Rattle.std.proofs.lemmas.Bool.{and_parts}
-use Rattle.base.specs.Numbers.{at}
+use Rattle.base.specs.Numbers.{all_zero, at, is_zero}
 use Rattle.base.specs.Forms.{opposite, value_at}
+use Rattle.base.proofs.Zeros.{is_zero-is}
 use Rattle.tableau.specs.declared.table.Row.{Row}
-use Rattle.tableau.specs.Cuts.{is_zero, none_of}
 use Rattle.algebra.proofs.Ring.{◌⊕◌, ◌⊖◌, ◌⊗◌, num, ring, ⊝◌}
 use Rattle.algebra.proofs.Dots.{at-negs, dot-negs, dot-set, set-dot}
 use Rattle.tableau_laws.specs.Lines.{Unused, under}
@@ -55,15 +55,10 @@ lines-unused ρ q v [] u h = refl
 lines-unused ρ q v (r ∷ rs) u h = λ k. record { coefs = r.coefs; constant = value-unused r.form ρ q v u.0 h k; div = r.div } ∷ lines-unused ρ q v rs u.1 h k
 
 -- ---- a form that names no parameter
-pub is-zero : (z : ℤ) → is_zero z ≡ true → z ≡ pos 0
-is-zero (pos zero) e = refl
-is-zero (pos (suc n)) e = cc
-is-zero (negsuc n) e = cc
-
-pub value_none : (C ρ : List ℤ) → length C ≡ suc (length ρ) → none_of (take (length ρ) C) ≡ true → value_at C ρ ≡ at C (length ρ)
+pub value_none : (C ρ : List ℤ) → length C ≡ suc (length ρ) → all_zero (take (length ρ) C) ≡ true → value_at C ρ ≡ at C (length ρ)
 value_none [] ρ e c = absurd (let no : ⊥ = omega arith in no)
 value_none (x ∷ []) [] e c = ring 1 (λ x. (x ⊗ num (pos 1) ⊕ num (pos 0), x)) refl x
 value_none (x ∷ (y ∷ C)) [] e c = absurd (let no : ⊥ = omega arith in no)
 value_none (x ∷ C) (z ∷ ρ) e c =
-    let p = and_parts (is_zero x) (none_of (take (length ρ) C)) c in
-    rw (is-zero x p.0, value_none C ρ (omega arith) p.1) (ring 2 (λ z v. (num (pos 0) ⊗ z ⊕ v, v)) refl z (at C (length ρ)))
+    let p = and_parts (is_zero x) (all_zero (take (length ρ) C)) c in
+    rw (is_zero-is x p.0, value_none C ρ (omega arith) p.1) (ring 2 (λ z v. (num (pos 0) ⊗ z ⊕ v, v)) refl z (at C (length ρ)))

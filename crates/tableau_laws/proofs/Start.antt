@@ -3,18 +3,22 @@ use Rattle.std.proofs.Common.{◌≡◌, ℕ, zero, suc, ◌+◌, ◌-◌, ◌<�
 use native.Mathlib.Decide.{ℕ_discrete}
 use borrow.Author.Differences.{ints}
 use Rattle.std.proofs.lemmas.List.{length-append, length-map}
-use Rattle.base.specs.Numbers.{at}
+use Rattle.base.specs.Numbers.{at, zeros}
 use Rattle.base.specs.Forms.{dot, value_at}
 use Rattle.tableau.specs.declared.table.Row.{Row}
-use Rattle.algebra.specs.Lists.{NonNeg, column, zeros}
+use Rattle.algebra.specs.Lists.{NonNeg, column}
 use Rattle.algebra.specs.Orders.{LexNN}
 use Rattle.algebra.proofs.Ring.{◌⊕◌, ◌⊖◌, ◌⊗◌, num, ring}
 use Rattle.algebra.proofs.Claims.{given, goal, ring-from}
-use Rattle.algebra.proofs.Dots.{at-zeros, dot-comm, dot-padded, dot-zeros, length-zeros, set-dot}
+use Rattle.algebra.proofs.Dots.{dot-comm, dot-padded, dot-zeros, length-zeros, set-dot}
+use Rattle.base.proofs.Zeros.{at-zeros}
+use Rattle.base.proofs.Values.{dot-nil}
+use Rattle.tableau.proofs.Units.{length-units}
 use Rattle.algebra.proofs.Naturals.{nonneg-append, nonneg-zeros}
 use Rattle.tableau_laws.specs.Lines.{Above, AllSay, AllSayAt, Shaped, coefs_of, under}
 use Rattle.tableau_laws.specs.Facts.{Linked, Satisfied}
-use Rattle.tableau_laws.specs.Start.{Plain, unit_row, unit_rows}
+use Rattle.tableau_laws.specs.Start.{Plain}
+use Rattle.tableau.specs.Tables.{unit_row, unit_rows}
 use Rattle.tableau_laws.specs.Laws.{StartRight}
 
 -- ---- the unknowns' rows
@@ -73,10 +77,6 @@ units-shaped : (l k : ℕ) → Shaped (unit_rows l k)
 units-shaped l zero = tt
 units-shaped l (suc k) = (length-set (zeros 9) l (pos 1), refl, units-shaped (suc l) k)
 
-units-size : (l k : ℕ) → length (unit_rows l k) ≡ k
-units-size l zero = refl
-units-size l (suc k) = ap suc (units-size (suc l) k)
-
 -- ---- the system's rows
 abbrev row_values : List ℤ → List Row → List ℤ → List ℤ
 row_values ρ [] x = []
@@ -101,11 +101,7 @@ rows_above ρ n (r ∷ rs) p = (one p.0, rows_above ρ n rs p.2)
 dot-front : (C X y : List ℤ) → length X ≤ length y → ((m : ℕ) → m < length X → at X m ≡ at y m) → ((m : ℕ) → length X ≤ m → at C m ≡ pos 0) → dot C X ≡ dot C y
 dot-front [] X y h f z = refl
 dot-front (c ∷ C) [] [] h f z = refl
-dot-front (c ∷ C) [] (v ∷ y) h f z = sym (rw (z 0 (omega arith), sym (dot-front C [] y (omega arith) (λ m lt. absurd (let no : ⊥ = omega arith in no)) (λ m le. z (suc m) (omega arith))) ∙ nil C) (ring 1 (λ v. (num (pos 0) ⊗ v ⊕ num (pos 0), num (pos 0))) refl v))
-  where
-    nil : (C : List ℤ) → dot C [] ≡ pos 0
-    nil [] = refl
-    nil (c ∷ C) = refl
+dot-front (c ∷ C) [] (v ∷ y) h f z = sym (rw (z 0 (omega arith), sym (dot-front C [] y (omega arith) (λ m lt. absurd (let no : ⊥ = omega arith in no)) (λ m le. z (suc m) (omega arith))) ∙ dot-nil C) (ring 1 (λ v. (num (pos 0) ⊗ v ⊕ num (pos 0), num (pos 0))) refl v))
 dot-front (c ∷ C) (x ∷ X) [] h f z = absurd (let no : ⊥ = omega arith in no)
 dot-front (c ∷ C) (x ∷ X) (v ∷ y) h f z = rw (f 0 (omega arith), dot-front C X y (omega arith) (λ m lt. f (suc m) (omega arith)) (λ m le. z (suc m) (omega arith)))
 
@@ -142,7 +138,7 @@ start_right n ρ rest few shaped plain = record {
         rows-linked ρ n rest y s X plain b.0 (omega (arith, ny)) (λ m lt. b.1 m lt ∙ ap (λ k. at y k) (zero-add m));
     lex = λ c. units-lex ρ 0 n c (omega arith);
     div = (units-above ρ 0 n, rows_above ρ n rest plain);
-    size = length-map (unit_rows 0 n) (under ρ) ∙ units-size 0 n;
+    size = length-map (unit_rows 0 n) (under ρ) ∙ length-units 0 n;
   };
   top_shaped = units-shaped 0 n;
   rest_shaped = shaped;

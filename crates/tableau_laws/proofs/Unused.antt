@@ -1,11 +1,12 @@
 -- A place that no form uses stays so.
-use Rattle.std.proofs.Common.{◌≡◌, ℕ, zero, suc, ◌<◌, true, ◌≢◌, List, [], ◌∷◌, ◌++◌, map, length, take, set, ℤ, pos, ◌+ℤ◌, ◌-ℤ◌, neg_ℤ, nat_abs, Some, None, sym, refl, ap, ◌∙◌, subst, inl, inr, arith, get_or-set_other}
+use Rattle.std.proofs.Common.{◌≡◌, ℕ, zero, suc, ◌<◌, true, ◌≢◌, List, [], ◌∷◌, ◌++◌, map, length, set, ℤ, pos, ◌+ℤ◌, ◌-ℤ◌, neg_ℤ, nat_abs, Some, None, sym, refl, ap, ◌∙◌, subst, inl, inr, get_or-set_other}
 use native.Mathlib.Nat.{zero-div, zero-mod}
 use Rattle.base.specs.Numbers.{at, mod_by, quot_by}
 use Rattle.base.specs.Forms.{opposite}
+use Rattle.base.proofs.Zeros.{all_zero-take}
 use Rattle.tableau.specs.declared.table.Row.{Row}
 use Rattle.tableau.specs.Rows.{gcd_of, lowest, pivoted, turned}
-use Rattle.tableau.specs.Cuts.{cut_form, cut_of, cut_row, is_constant, is_zero, lower, none_of, upper}
+use Rattle.tableau.specs.Cuts.{cut_form, cut_of, cut_row, is_constant, lower, upper}
 use Rattle.algebra.proofs.Ring.{◌⊖◌, ◌⊗◌, num, ring}
 use Rattle.algebra.proofs.Dots.{at-negs}
 use Rattle.tableau_laws.specs.Lines.{In, Shaped, Unused}
@@ -68,17 +69,9 @@ upper-unused q p r ne last e =
     ∙ negs-unused T q (mod-unused r.div r.form q e)
 
 -- ---- a form that uses no place before n
-zero_is : (z : ℤ) → z ≡ pos 0 → is_zero z ≡ true
-zero_is z e = ap is_zero e
-
-pub none-used : (n : ℕ) (C : List ℤ) → ((q : ℕ) → q < n → at C q ≡ pos 0) → none_of (take n C) ≡ true
-none-used zero C h = refl
-none-used (suc n) [] h = refl
-none-used (suc n) (x ∷ C) h = rw (zero_is x (h 0 (omega arith)), none-used n C (λ q lt. h (suc q) (omega arith)))
-
 -- so its cut needs no new parameter
 pub constant-cut : (r : Row) → ((q : ℕ) → q < 9 → at r.form q ≡ pos 0) → is_constant (cut_of r) ≡ true
-constant-cut r h = none-used 9 (cut_of r).form (λ q lt. mod-unused r.div r.form q (h q lt))
+constant-cut r h = all_zero-take 9 (cut_of r).form (λ q lt. mod-unused r.div r.form q (h q lt))
 
 -- ---- splits
 pub opposite-unused : (q : ℕ) (C : List ℤ) → q ≢ 9 → at C q ≡ pos 0 → at (opposite C) q ≡ pos 0

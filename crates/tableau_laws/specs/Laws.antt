@@ -10,7 +10,8 @@ use Rattle.algebra.specs.Lists.{NonNeg}
 use Rattle.tableau_laws.specs.Lines.{In, Line, Says, SaysAt, Shaped, Unused, under}
 use Rattle.tableau_laws.specs.Facts.{Right}
 use Rattle.tableau_laws.specs.Settings.{gained, new_value}
-use Rattle.tableau_laws.specs.Start.{Plain, unit_rows}
+use Rattle.tableau_laws.specs.Start.{Plain}
+use Rattle.tableau.specs.Tables.{unit_rows}
 use Rattle.tableau_laws.specs.Ends.{Least, NoPoint, NonNegAt, leaf_forms}
 use Rattle.tree.specs.Answers.{values_at}
 

@@ -11,13 +11,6 @@ use Rattle.tree.specs.Answers.{gaining}
 use Rattle.tree.specs.Finds.{all_below, is_point, proper, spread}
 use Rattle.tree.specs.Parts.{NoneBelow, total}
 
-pub within-set : (m : ℕ) (xs : List ℤ) (i : ℕ) (v : ℤ) → nat_abs v ≤ m → AllWithin m xs → AllWithin m (set xs i v)
-within-set m [] i v h w k = w k
-within-set m (x ∷ xs) zero v h w zero = h
-within-set m (x ∷ xs) zero v h w (suc k) = w (suc k)
-within-set m (x ∷ xs) (suc i) v h w zero = w 0
-within-set m (x ∷ xs) (suc i) v h w (suc k) = within-set m xs i v h (λ j. w (suc j)) k
-
 pub each_within : (ρ : List ℤ) (m : ℕ) → total ρ ≤ m → AllWithin m ρ
 each_within [] m h k = omega arith
 each_within (x ∷ xs) m h zero = omega arith

@@ -4,7 +4,7 @@ ghost use Rattle.base.specs.Numbers.{AllWithin};
 ghost use Rattle.base.specs.Forms.{value_at};
 ghost use Rattle.tree.specs.Finds.{point_answer};
 ghost use Rattle.nest.specs.Acts.{nest_of};
-ghost use Rattle.nest.specs.Backs.{back_answer, counter_of, counters_of, left_by};
+ghost use Rattle.nest.specs.Backs.{counter_of, counters_of, left_of, said_of, turned_back};
 
 use super::Nest;
 use base::form::{Sum, plus_product};
@@ -82,8 +82,8 @@ impl Nest {
         numbers: &[i64; 6],
         place: &mut [i64; 6],
     ) -> Result<(), Refusal>
-        ensures answer { result ≡ back_answer (nest_of self.now) point.now numbers.now }
-        ensures left { place.new ≡ left_by (nest_of self.now) point.now numbers.now }
+        ensures answer { result ≡ said_of (turned_back (nest_of self.now) point.now numbers.now) }
+        ensures left { place.new ≡ left_of (turned_back (nest_of self.now) point.now numbers.now) }
     {
         *place = [0; 6];
         let postings = Postings::at(self, point)?;

@@ -2,7 +2,8 @@ use Rattle.std.proofs.Common.{cond, ltb, ◌∙◌, rules, tests}
 use Rattle.std.proofs.lemmas.Iterator.{YieldsList-from_slice}
 use Rattle.std.proofs.lemmas.Iterator.Consumers.{YieldsList-from_enumerate}
 use Rattle.std.proofs.lemmas.Iterator.Search.{all_from_yields_List}
-use Rattle.page.specs.Fits.{all_zero, form_fits}
+use Rattle.page.specs.Fits.{form_fits}
+use Rattle.base.specs.Numbers.{all_zero}
 use Rattle.page.proofs.Testing.{leaf-is}
 use Rattle.page.proofs.number.leaf_fits.Goals as goal
 

@@ -1,8 +1,6 @@
 use Rattle.std.proofs.Common.{◌≡◌, ◌+◌, map, take, drop}
-use Rattle.tableau.specs.Tables.{Ready, top}
+use Rattle.tableau.specs.Tables.{Ready, rest, top, unit_rows}
 use Rattle.solver.specs.Solves.{fitted, numbers_fit, row_of}
-use Rattle.solver.specs.Tests.{unit_rows}
-use Rattle.solver.specs.Ties.{rest}
 use Rattle.solver.proofs.read.read_table.Given as goal
 
 abbrev pub invariant-loop-i : goal.invariant-loop-i

@@ -4,7 +4,8 @@ use Rattle.std.proofs.lemmas.List.{get_or_past}
 use Rattle.std.proofs.lemmas.Int.{to_z-of_z}
 use Rattle.base.specs.Numbers.{AllWithin, at}
 use Rattle.solver.specs.Tests.{test_row}
-use Rattle.solver.proofs.Keeping.{sound-one, within-set, within-zeros}
+use Rattle.solver.proofs.Keeping.{sound-one, within-zeros}
+use Rattle.base.proofs.Ranges.{within-set}
 use Rattle.solver.proofs.Starting.{test-width}
 use Rattle.solver.proofs.start.test_row.Goals as goal
 

@@ -1,6 +1,7 @@
 use Rattle.std.proofs.Common.{◌≡◌, ◌+◌, ◌<◌, [], ◌∷◌, ◌++◌, map, length, take, sym, ap, ◌∙◌, arith, rules}
 use Rattle.std.proofs.lemmas.List.{append_assoc, get_or-take, length-take, map_more}
-use Rattle.solver.specs.Tests.{test_row, unit_rows}
+use Rattle.solver.specs.Tests.{test_row}
+use Rattle.tableau.specs.Tables.{unit_rows}
 use Rattle.solver.proofs.start.test_table.Goals as goal
 
 pub loop-form-preserved : goal.loop-form-preserved

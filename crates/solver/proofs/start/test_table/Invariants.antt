@@ -1,6 +1,6 @@
 use Rattle.std.proofs.Common.{◌≡◌, ◌+◌, ◌++◌, map, take}
-use Rattle.tableau.specs.Tables.{Ready, in_use}
-use Rattle.solver.specs.Tests.{test_row, unit_rows}
+use Rattle.tableau.specs.Tables.{in_use, Ready, unit_rows}
+use Rattle.solver.specs.Tests.{test_row}
 use Rattle.solver.proofs.start.test_table.Given as goal
 
 abbrev pub invariant-loop-form : goal.invariant-loop-form

@@ -1,8 +1,7 @@
 use Rattle.std.proofs.Common.{◌≡◌, [], ◌∷◌, ◌++◌, take, sym, ap, ◌∙◌, subst, arith, rules}
 use Rattle.std.proofs.lemmas.List.{get_or_append_left, length-set, take_all, take_at, take_more_set}
 use Rattle.tableau.specs.Rows.{Sound}
-use Rattle.tableau.specs.Tables.{no_row}
-use Rattle.solver.specs.Tests.{unit_rows}
+use Rattle.tableau.specs.Tables.{no_row, unit_rows}
 use Rattle.solver.proofs.Keeping.{each-push}
 use Rattle.solver.proofs.Starting.{units-more}
 use Rattle.solver.proofs.start.unit_table.Goals as goal

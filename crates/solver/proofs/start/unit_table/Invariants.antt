@@ -1,7 +1,6 @@
 use Rattle.std.proofs.Common.{◌≡◌, ℕ, ◌<◌, length, get_or, take}
 use Rattle.tableau.specs.Rows.{Sound}
-use Rattle.tableau.specs.Tables.{no_row}
-use Rattle.solver.specs.Tests.{unit_rows}
+use Rattle.tableau.specs.Tables.{no_row, unit_rows}
 use Rattle.solver.proofs.start.unit_table.Given as goal
 
 abbrev pub invariant-loop-h : goal.invariant-loop-h

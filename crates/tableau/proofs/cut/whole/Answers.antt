@@ -2,8 +2,7 @@ use Rattle.std.proofs.Common.{Bool, ℤ, rules}
 use borrow.Author.Tests.{tests}
 use Rattle.std.proofs.lemmas.Iterator.{YieldsList-from_slice}
 use Rattle.std.proofs.lemmas.Iterator.Search.{all_from_yields_List}
-use Rattle.base.specs.Numbers.{mod_by}
-use Rattle.tableau.specs.Cuts.{is_zero}
+use Rattle.base.specs.Numbers.{is_zero, mod_by}
 use Rattle.tableau.proofs.cut.whole.Goals as goal
 
 pub returns : goal.returns

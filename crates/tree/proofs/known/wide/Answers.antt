@@ -1,7 +1,7 @@
 use Rattle.std.proofs.Common.{◌^◌, ◌≤◌, get_or, replicate, pos, nat_abs, sym, ◌∙◌, subst, arith, w32, w64, SFits, rules}
 use Rattle.std.proofs.lemmas.Int.{ints, to_z-of_z}
 use Rattle.base.proofs.Fill.{filled-all, filled_more}
-use Rattle.tree.proofs.Sizes.{within-set}
+use Rattle.base.proofs.Ranges.{within-set}
 use Rattle.tree.proofs.known.wide.Goals as goal
 
 pub loop-k-preserved : goal.loop-k-preserved

@@ -5,10 +5,10 @@ use Rattle.std.proofs.lemmas.Result.{err_from_is_err_and}
 use Rattle.base.specs.declared.refusal.Refusal.TheVariants.{BeyondBound}
 use Rattle.base.specs.Numbers.{at}
 use Rattle.base.specs.Forms.{value_at}
-use Rattle.tree.specs.Finds.{padded}
+use Rattle.tree.specs.Finds.{padded, six_numbers}
 use Rattle.tree.proofs.Sixes.{padded-more}
 use Rattle.nest.specs.Acts.{nest_of}
-use Rattle.nest.specs.Backs.{bounds_less, counter_of, reached, reaches, six_of}
+use Rattle.nest.specs.Backs.{bounds_less, counter_of, reached, reaches}
 use Rattle.nest.proofs.Counters.{at_less, length-less, reached-more, told-accepted, told-refused}
 use Rattle.nest.proofs.nest.back.Postings.counters.Goals as goal
 
@@ -28,7 +28,7 @@ returns-in_err-counters c =
     let m = reached-more B R xs i (omega (arith, s.each_bounded, c.unknowns.ensures.value)) (search rules) in
     let r : reached B R xs ≡ false = sym c.loop-i.invariant.reach ∙ (m ∙ ap (λ (b : Bool). b && reached (drop (i + 1) B) R (drop (i + 1) xs)) t.0) in
     let p = err_from_is_err_and c.from_residual.result c.from_residual.ensures.1 in
-    record { answer = p.1 ∙ (ap Err (p.2 ∙ t.1) ∙ sym (ap (λ (b : Bool). cond b (Ok (six_of (bounds_less B R xs))) (Err BeyondBound)) r)) }
+    record { answer = p.1 ∙ (ap Err (p.2 ∙ t.1) ∙ sym (ap (λ (b : Bool). cond b (Ok (six_numbers (bounds_less B R xs))) (Err BeyondBound)) r)) }
 
 pub loop-i-preserved : goal.loop-i-preserved
 loop-i-preserved c =
@@ -65,4 +65,4 @@ returns c =
     let l : length (bounds_less B R xs) ≡ length B = length-less B R xs (omega (arith, s.each_bounded, six)) in
     let r : reached B R xs ≡ true = sym c.loop-i.invariant.reach ∙ ap (λ (Us : List (List ℤ)). reached Us R (drop i xs)) (drop_all i B (omega (arith, s.each_bounded, c.unknowns.ensures.value))) in
     let w = c.loop-i.invariant.written ∙ ap (padded 6) (take_all i (bounds_less B R xs) (omega (arith, l, s.each_bounded, c.unknowns.ensures.value))) in
-    record { answer = ap Ok w ∙ sym (ap (λ (b : Bool). cond b (Ok (six_of (bounds_less B R xs))) (Err BeyondBound)) r) }
+    record { answer = ap Ok w ∙ sym (ap (λ (b : Bool). cond b (Ok (six_numbers (bounds_less B R xs))) (Err BeyondBound)) r) }
