@@ -1,10 +1,15 @@
 -- Each refusal, by its number and the values that go with it.
-use Rattle.std.specs.Prelude.{ℕ, List, [], ◌∷◌}
+use Rattle.std.specs.Prelude.{ℕ, List, [], ◌∷◌, Ok, Err, Result}
 use Rattle.base.specs.declared.refusal.Place.{Place}
 use Rattle.base.specs.declared.refusal.Place.TheVariants.{Node, Test}
 use Rattle.base.specs.declared.refusal.Met.{Met}
 use Rattle.base.specs.declared.refusal.Refusal.{Refusal}
 use Rattle.base.specs.declared.refusal.Refusal.TheVariants.{Counts, Number, NoParameterPoint, RowShape, NestShape, Listing, Fuel, WorkFull, StoreFull, FuelSpent, StoreClosed, Range, Cuts, NewParameters, Depth, NoTree, PointLength, PointNumber, OutsideKeep, BeyondBound, PageLength, PageKind, PageNumber, PageDepth}
+
+-- what follows a check that may refuse
+abbrev pub and_then : {A : Type 0} → Result (Unit {0}) Refusal → Result A Refusal → Result A Refusal
+and_then (Ok _) r = r
+and_then (Err e) r = Err e
 
 pub record Report : Type 0 where
   pub number : ℕ

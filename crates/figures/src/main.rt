@@ -1,14 +1,16 @@
 //! Solves each line of a file of listings and prints the line and its answer.
 #![tactic(auto)]
 
-ghost use Rattle.figures.specs.Figures.{FiguresStand};
+ghost use Rattle.std.specs.Prelude.{◌≡◌, length};
+ghost use Rattle.figures.specs.Figures.{FiguresStand, figures};
 
 use listing::solve::answer_text;
 use std::fs;
 
 /// The worked figures hold of the definitions; the number is how many there are.
 pub fn figures_stand() -> u8
-    ensures { FiguresStand }
+    ensures stand { FiguresStand }
+    ensures count { result ≡ length figures }
 {
     14
 }

@@ -3,6 +3,7 @@ use Rattle.std.specs.Prelude.{Bool, true, false, cond, ◌&&◌, List, [], ◌�
 use Rattle.base.specs.declared.refusal.Refusal.{Refusal}
 use Rattle.base.specs.declared.refusal.Refusal.TheVariants.{BeyondBound}
 use Rattle.base.specs.Forms.{value_at}
+use Rattle.base.specs.Refusals.{and_then}
 use Rattle.tree.specs.Finds.{point_answer, six_numbers}
 use Rattle.base.specs.Numbers.{zeros}
 use Rattle.nest.specs.Loops.{Loops}
@@ -32,12 +33,8 @@ abbrev pub counters_of : List (List ℤ) → List ℤ → List ℤ → Result (L
 counters_of Us point xs = cond (reached Us point xs) (Ok (six_numbers (bounds_less Us point xs))) (Err BeyondBound)
 
 -- what turning the numbers back comes to: the six numbers, or why it is refused; the point is looked at first
-abbrev pub then_counters : Loops → List ℤ → List ℤ → Result (Unit {0}) Refusal → Result (List ℤ) Refusal
-then_counters L point numbers (Ok u) = counters_of L.bounds point numbers
-then_counters L point numbers (Err e) = Err e
-
 abbrev pub turned_back : Loops → List ℤ → List ℤ → Result (List ℤ) Refusal
-turned_back L point numbers = then_counters L point numbers (point_answer L.p point)
+turned_back L point numbers = and_then (point_answer L.p point) (counters_of L.bounds point numbers)
 
 -- what back says of it
 abbrev pub said_of : Result (List ℤ) Refusal → Result (Unit {0}) Refusal

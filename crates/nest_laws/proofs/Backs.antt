@@ -1,13 +1,15 @@
 -- What back answers for a point of a nest's system.
-use Rattle.std.proofs.Common.{◌≡◌, ℕ, suc, ◌-◌, true, cond, ◌&&◌, eqb, List, [], ◌∷◌, ◌++◌, map, length, replicate, ℤ, pos, negsuc, ◌≤ℤ◌, Ok, Err, sym, refl, ap, ◌∙◌, subst, arith}
+use Rattle.std.proofs.Common.{◌≡◌, ℕ, suc, ◌-◌, true, cond, ◌&&◌, eqb, List, [], ◌∷◌, ◌++◌, map, length, replicate, ℤ, pos, negsuc, ◌≤ℤ◌, Ok, Err, Result, sym, refl, ap, ◌∙◌, subst, arith}
 use borrow.Author.Differences.{ints}
 use lib.Signed.{le_z}
 use Rattle.std.proofs.lemmas.List.{length-map}
 use Rattle.std.proofs.lemmas.Bool.{and_from, cond-true, eq-eqb, le-leb}
+use Rattle.base.specs.declared.refusal.Refusal.{Refusal}
 use Rattle.base.specs.declared.refusal.Refusal.TheVariants.{BeyondBound, PointLength, PointNumber}
 use Rattle.base.specs.Forms.{value_at}
+use Rattle.base.specs.Refusals.{and_then}
 use Rattle.tree.specs.Finds.{is_point, point_answer, six_numbers}
-use Rattle.nest.specs.Backs.{bounds_less, reached, then_counters, turned_back}
+use Rattle.nest.specs.Backs.{bounds_less, counters_of, reached, turned_back}
 use Rattle.nest.specs.Loops.{Loops, Shaped}
 use Rattle.nest_laws.specs.Laws.{Askable, BackPosts, LatestTurnedBack}
 use Rattle.nest_laws.specs.Postings.{LatestAnswer, UpToBounds}
@@ -50,7 +52,7 @@ back-posts L s z x e a p =
     ∙ cond-true (is_point (map pos z)) (Ok tt) (Err PointNumber) (asked z a) in
     let r = reach L.bounds z x rest (pairs-within L.bounds z x c (pairs_of L z x c s f)) in
     let b : turned_back L (map pos z) (six_numbers (map pos x)) ≡ Ok (six_numbers (bounds_less L.bounds (map pos z) (six_numbers (map pos x)))) =
-    ap (then_counters L (map pos z) (six_numbers (map pos x))) t ∙ cond-true (reached L.bounds (map pos z) (six_numbers (map pos x))) _ (Err BeyondBound) r in
+    ap (λ (o : Result (Unit {0}) Refusal). and_then o (counters_of L.bounds (map pos z) (six_numbers (map pos x)))) t ∙ cond-true (reached L.bounds (map pos z) (six_numbers (map pos x))) _ (Err BeyondBound) r in
     let l = front L.bounds (map pos z) (map pos x) rest (length-map x pos ∙ f.counted ∙ sym s.each_bounded) ∙ f.turned in
     (c, (f, (k.posts x c f p, b ∙ ap (λ (v : List ℤ). Ok (six_numbers v)) l)))
 

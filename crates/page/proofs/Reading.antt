@@ -14,7 +14,7 @@ use Rattle.page.specs.Words.{Bytes, all_bytes, bytes, forms, forms_bytes, word, 
 use Rattle.page.specs.Records.{Kind, Opened, body_length, flawed, one, opened_as, page_of, record_of, head as head_kind, keep as keep_kind, split as split_kind, new as new_kind, leaf as leaf_kind, none as none_kind}
 use Rattle.page.specs.Fits.{form_fits, leaf_fits, new_fits}
 use Rattle.page.specs.Readings.{Out, Reader, Whole, below, done, ended, fault, head_at, keep, keep_at, keeps, keeps_from, node, opening, parse, reading, taking, then, unless, whole}
-use Rattle.page.specs.Pages.{Accepted, Fits, IsPage, Refused, WrittenAccepted, checked, checked_as, list_of}
+use Rattle.page.specs.Pages.{Fits, IsPage, Refused, WrittenAccepted, checked, checked_as, list_of}
 use Rattle.page.specs.Ties.{Allowed}
 use Rattle.page.proofs.Words.{AllTen, Ten, form-of, forms-exact, forms-of, length-form, length-forms, length-six, length-words, word_bytes, words-exact}
 use Rattle.page.proofs.Fitting.{form_in, form-out, form-ten, forms-tens, leaf-in, leaf-out, new-d, new_in, new-out, six-tens, zero_form}
@@ -315,8 +315,9 @@ read-page bs w i = ap reading i.1 ∙ of-page w i.0
 done-same : (w v : Whole) (r s : List ℕ) → done w r ≡ done v s → w ≡ v
 done-same w v r s e = cc
 
-pub accepted : (bs : List ℕ) → Bytes bs → Accepted bs (checked bs)
-accepted bs h k e = go (reading bs) (reading-right bs h) (read-page bs) e where
+-- an accepted page is that of a tree within the limits, and of no other such tree
+pub one-tree : (bs : List ℕ) → Bytes bs → (k : ℕ) → checked bs ≡ Ok k → (w : Whole) × (IsPage bs w × ((k ≡ length (list_of w)) × ((v : Whole) → IsPage bs v → v ≡ w)))
+one-tree bs h k e = go (reading bs) (reading-right bs h) (read-page bs) e where
   go : (o : Out Whole) → Right bs o → ((v : Whole) → IsPage bs v → o ≡ done v []) → checked_as bs o ≡ Ok k → (w : Whole) × (IsPage bs w × ((k ≡ length (list_of w)) × ((v : Whole) → IsPage bs v → v ≡ w)))
   go (done w r) g same c = let q : k ≡ length (list_of w) = cc in (w, (g, (q, λ v i. sym (done-same w v r [] (same v i)))))
   go (fault f r) g same c = let z : ◌≡◌ {A = ℕ} 0 1 = cc in absurd (let no : ⊥ = omega arith in no)

@@ -7,15 +7,15 @@ use Rattle.tree.specs.Trees.{Tree, split, new, leaf, none, nodes}
 use Rattle.tree.specs.Limits.{AllFormsFit, TreeFits}
 use Rattle.page.specs.declared.record.Flaw.{Flaw}
 use Rattle.page.specs.declared.record.Record.{Record}
-use Rattle.page.specs.Words.{all_bytes, bytes, forms_bytes}
+use Rattle.page.specs.Words.{Bytes, all_bytes, bytes, forms_bytes}
 use Rattle.page.specs.Records.{Kind, node_of, nodes_from, nodes_in, one, opened, page_of, record_of, head as head_kind, keep as keep_kind, split as split_kind, new as new_kind, leaf as leaf_kind, none as none_kind}
 use Rattle.page.specs.Readings.{Whole, whole}
-use Rattle.page.specs.Pages.{Fits, IsPage, list_of}
+use Rattle.page.specs.Pages.{Accepted, Fits, IsPage, checked, list_of}
 use Rattle.page.specs.Ties.{Reads, body_in, kind_in}
 use Rattle.page.proofs.Checking.{reads-flaw, reads-one}
-use Rattle.page.proofs.Holding.{AllHoldable, Holdable, all-holdable-++}
+use Rattle.page.proofs.Holding.{AllHoldable, Holdable, all_from, all-holdable-++}
 use Rattle.page.proofs.Fitting.{form-ten, new-d, six-tens, zero_form}
-use Rattle.page.proofs.Reading.{form-exact, opened-is, six-exact}
+use Rattle.page.proofs.Reading.{form-exact, one-tree, opened-is, six-exact}
 use Rattle.page.proofs.Words.{length-form, length-six, word_bytes}
 
 -- ---- the turns of the loop
@@ -90,3 +90,12 @@ all-holdable (whole n p Cs t) f = (tt, all-holdable-++ (map Keep Cs) (nodes t) (
 pub page-back : (bs : List ℕ) (w : Whole) → IsPage bs w → nodes_in (length bs) bs ≡ list_of w
 page-back bs w i =
     subst (λ l. nodes_in (length l) l ≡ list_of w) (sym i.1) (list_back (length (page_of (list_of w))) (list_of w) (all-holdable w i.0) (omega arith))
+
+-- no other nodes have the page of a tree within the limits
+only-list : (bs : List ℕ) (w : Whole) → IsPage bs w → (xs : List Node) → AllHoldable xs → bs ≡ page_of xs → xs ≡ list_of w
+only-list bs w i xs h e = sym (list_back (length (page_of xs)) xs h (omega arith)) ∙ ap (λ l. nodes_in (length l) l) (sym e) ∙ page-back bs w i
+
+pub accepted : (bs : List ℕ) → Bytes bs → Accepted bs (checked bs)
+accepted bs h k e =
+    let o = one-tree bs h k e in
+    record { tree = o.0; page = o.1.0; counted = o.1.1.0; one_tree = o.1.1.1; one_list = λ xs a is. only-list bs o.0 o.1.0 xs (all_from xs a) is }

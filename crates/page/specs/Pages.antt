@@ -1,5 +1,5 @@
 -- What a page is: exactly one whole tree within the limits.
-use Rattle.std.specs.Prelude.{◌≡◌, ℕ, ◌-◌, List, length, take, Some, Ok, Err, Option, Result, slice_index_or}
+use Rattle.std.specs.Prelude.{◌≡◌, ℕ, ◌-◌, true, List, length, take, Some, Ok, Err, Option, Result, slice_index_or}
 use Rattle.base.specs.declared.refusal.Refusal.{Refusal}
 use Rattle.base.specs.declared.refusal.Refusal.TheVariants.{PageLength, PageKind, PageNumber, PageDepth}
 use Rattle.tree.specs.declared.node.Node.{Node}
@@ -8,7 +8,7 @@ use Rattle.tree.specs.Limits.{WithinLimits}
 use Rattle.tree.specs.Questions.{all_nodes}
 use Rattle.page.specs.declared.record.Flaw.{Flaw}
 use Rattle.page.specs.declared.record.Flaw.TheVariants.{Length as FlawLength, Kind as FlawKind, Number as FlawNumber, Depth as FlawDepth}
-use Rattle.page.specs.Records.{nodes_in, page_of}
+use Rattle.page.specs.Records.{all_holdable, nodes_in, page_of}
 use Rattle.page.specs.Readings.{Out, Whole, done, fault, reading, whole}
 
 abbrev pub list_of : Whole → List Node
@@ -35,9 +35,17 @@ checked_as bs (fault e r) = Err (refusal_of e (length bs - length r))
 abbrev pub checked : List ℕ → Result ℕ Refusal
 checked bs = checked_as bs (reading bs)
 
--- an accepted page is the page of one tree within the limits, whose nodes the answer counts, and of no other
+-- the page of one tree within the limits, which has k nodes, and of no other: of no other tree within the limits, and of no other nodes at all
+pub record PageOfOne (bs : List ℕ) (k : ℕ) : Type 0 where
+  pub tree : Whole
+  pub page : IsPage bs tree
+  pub counted : k ≡ length (list_of tree)
+  pub one_tree : (v : Whole) → IsPage bs v → v ≡ tree
+  pub one_list : (xs : List Node) → all_holdable xs ≡ true → bs ≡ page_of xs → xs ≡ list_of tree
+
+-- an accepted page is the page of one tree within the limits, whose nodes the answer counts
 abbrev pub Accepted : List ℕ → Result ℕ Refusal → Type 0
-Accepted bs r = (k : ℕ) → r ≡ Ok k → (w : Whole) × (IsPage bs w × ((k ≡ length (list_of w)) × ((v : Whole) → IsPage bs v → v ≡ w)))
+Accepted bs r = (k : ℕ) → r ≡ Ok k → PageOfOne bs k
 
 -- the page of a tree within the limits is accepted, with its count of nodes
 abbrev pub WrittenAccepted : List ℕ → Result ℕ Refusal → Type 0

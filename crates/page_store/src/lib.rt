@@ -2,4 +2,4 @@
 #![tactic(auto)]
 
 pub mod page_store;
-pub mod read;
+mod read;

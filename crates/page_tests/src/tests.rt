@@ -1,6 +1,6 @@
 //! Pages by example, and against a plain check that knows nothing of the reader.
 use base::refusal::Refusal;
-use page::back::node_at;
+use page::back::{node_at, node_of, record_at};
 use page::check::check;
 use page::write::{cost, write, write_list};
 use std::alloc::{AllocError, AllocFailed, Global};
@@ -40,6 +40,46 @@ fn the_worked_tree_takes_571_bytes_and_reads_back(rt: HostRuntime) {
     assert_eq!(rt; node_at(&page, 5), Node::None);
 }
 
+/// The record at an offset is this node's, and the next one begins where it should.
+fn stands(rt: &impl Abort, page: &[u8], offset: usize, node: Node, next: usize) {
+    match record_at(page, offset) {
+        Ok(placed) => {
+            assert_eq!(rt; placed.offset, offset);
+            assert_eq!(rt; node_of(placed.found), node);
+            assert_eq!(rt; placed.next, next);
+        }
+        Err(_) => assert!(rt; false),
+    }
+}
+
+/// By what the record at an offset is refused.
+fn refused_at(page: &[u8], offset: usize) -> Option<Refusal> {
+    record_at(page, offset).err()
+}
+
+#[test]
+fn records_stand_at_their_offsets(rt: HostRuntime) {
+    let page = half_page();
+    stands(&rt, &page, 0, WORKED[0], 3);
+    stands(&rt, &page, 3, WORKED[1], 44);
+    stands(&rt, &page, 44, WORKED[2], 285);
+    stands(&rt, &page, 285, WORKED[3], 330);
+    stands(&rt, &page, 330, WORKED[4], 571);
+    let end = Refusal::PageLength { offset: 571 };
+    assert_eq!(rt; refused_at(&page, 571), Some(end));
+    let beyond = Refusal::PageLength { offset: 600 };
+    assert_eq!(rt; refused_at(&page, 600), Some(beyond));
+    // the second number of the head is no kind, and the first byte of a form begins no record
+    assert_eq!(rt; refused_at(&page, 4), Some(Refusal::PageKind { offset: 4 }));
+}
+
+#[test]
+fn a_record_without_its_whole_body_is_refused(rt: HostRuntime) {
+    let short = Refusal::PageLength { offset: 1 };
+    assert_eq!(rt; refused_at(&[6, 1, 2], 1), Some(short));
+    assert_eq!(rt; refused_at(&[6, 4, 0, 0], 1), Some(short));
+}
+
 #[test]
 fn a_page_too_short_is_left_alone(rt: HostRuntime) {
     let mut page = [9; 570];
@@ -76,7 +116,6 @@ fn each_refusal_carries_its_offset(rt: HostRuntime) {
     answers(&rt, &[head], Err(Refusal::PageLength { offset: 3 }));
     let rest = [head, Node::None, Node::None];
     answers(&rt, &rest, Err(Refusal::PageLength { offset: 4 }));
-    answers(&rt, &[keep, keep], Err(Refusal::PageKind { offset: 0 }));
     let nine = [head, keep, keep, keep, keep, keep, keep, keep, keep, keep];
     answers(&rt, &nine, Err(Refusal::PageKind { offset: 331 }));
     let seven = [Node::Head { n: 7, p: 0 }, Node::None];

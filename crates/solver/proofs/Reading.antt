@@ -5,7 +5,8 @@ use Rattle.base.specs.declared.refusal.Refusal.{Refusal}
 use Rattle.base.specs.Numbers.{AllWithin, at, zeros}
 use Rattle.source.specs.Limits.{numbers_answer}
 use Rattle.tableau.specs.declared.table.Row.{Row}
-use Rattle.solver.specs.Solves.{and_then, fitted, form_of, numbers_fit}
+use Rattle.solver.specs.Solves.{fitted, form_of, numbers_fit}
+use Rattle.base.specs.Refusals.{and_then}
 
 -- ---- numbers written over the first of so many zeros
 pub front-copied : (w n : ℕ) (xs copied : List ℤ) → copied ≡ take n xs → copied ++ drop n (zeros w) ≡ take n xs ++ zeros (w - n)

@@ -13,7 +13,8 @@ use Rattle.solver.specs.declared.count.Count.{Count}
 use Rattle.solver.specs.Ends.{Planted, Rooted}
 use Rattle.solver.specs.Rules.{Work, node, test}
 use Rattle.solver.specs.Runs.{Limits, Outcome, fail, next, write, ◌>>=◌, ◌>>◌}
-use Rattle.solver.specs.Solves.{and_then, begun, fuel_fits, keeps, run, solved, start, system_fits}
+use Rattle.solver.specs.Solves.{begun, fuel_fits, keeps, run, solved, start, system_fits}
+use Rattle.base.specs.Refusals.{and_then}
 use Rattle.solver.specs.Ties.{Wrote, noted_in}
 use Rattle.solver.proofs.Writing.{noted-from, write-made, write-refused, wrote-trans}
 

@@ -2,6 +2,7 @@
 use Rattle.std.specs.Prelude.{ℕ, zero, suc, ◌+◌, ◌-◌, Bool, true, false, cond, ◌&&◌, List, [], ◌∷◌, ◌++◌, map, length, take, drop, replicate, ℤ, pos, Ok, Err, Result, int_le, unsigned_abs}
 use Rattle.base.specs.declared.refusal.Place.TheVariants.{Node}
 use Rattle.base.specs.declared.refusal.Refusal.{Refusal}
+use Rattle.base.specs.Refusals.{and_then}
 use Rattle.base.specs.declared.refusal.Refusal.TheVariants.{Fuel, NoParameterPoint}
 use Rattle.base.specs.Numbers.{at, zeros}
 use Rattle.source.specs.Limits.{counts_answer, numbers_answer}
@@ -48,10 +49,6 @@ start S =
     }
 
 -- ---- the limits of a system, in this order
-abbrev pub and_then : {A : Type 0} → Result (Unit {0}) Refusal → Result A Refusal → Result A Refusal
-and_then (Ok _) r = r
-and_then (Err e) r = Err e
-
 -- the numbers of each row, the first of them being row i
 abbrev pub numbers_fit : ℕ → List (List ℤ) → Result (Unit {0}) Refusal
 numbers_fit i [] = Ok tt

@@ -21,7 +21,8 @@ use Rattle.solver.specs.declared.state.State.{State}
 use Rattle.solver.specs.Bounds.{in_force}
 use Rattle.solver.specs.Runs.{Limits, Outcome, met_at, noted, stepped}
 use Rattle.solver.specs.Rules.{Scan, Work, below, clear, unsure}
-use Rattle.solver.specs.Solves.{and_then, fitted, form_of, numbers_fit, row_of, start, system_fits}
+use Rattle.solver.specs.Solves.{fitted, form_of, numbers_fit, row_of, start, system_fits}
+use Rattle.base.specs.Refusals.{and_then}
 
 abbrev pub limits : ℕ → ℕ → Limits
 limits fuel room = record { fuel = fuel; room = room }

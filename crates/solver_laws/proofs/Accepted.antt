@@ -7,7 +7,8 @@ use Rattle.source.specs.Limits.{counts_answer, counts_fit}
 use Rattle.source.specs.Systems.{System}
 use Rattle.tree.specs.Trees.{Tree}
 use Rattle.solver.specs.declared.count.Count.{Count}
-use Rattle.solver.specs.Solves.{and_then, fuel_fits, run, solved, start, system_fits}
+use Rattle.solver.specs.Solves.{fuel_fits, run, solved, start, system_fits}
+use Rattle.base.specs.Refusals.{and_then}
 use Rattle.solver_laws.proofs.FuelRange.{first}
 use Rattle.solver.specs.Ties.{limits}
 

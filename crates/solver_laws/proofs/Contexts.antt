@@ -7,7 +7,8 @@ use Rattle.tree.specs.Trees.{Tree}
 use Rattle.solver.specs.declared.count.Count.{Count}
 use Rattle.solver.specs.Runs.{Limits, Outcome, fail, next, ◌>>=◌}
 use Rattle.solver.specs.Rules.{Work, test}
-use Rattle.solver.specs.Solves.{and_then, begun, context_of, fuel_fits, run, solved, start, system_fits}
+use Rattle.solver.specs.Solves.{begun, context_of, fuel_fits, run, solved, start, system_fits}
+use Rattle.base.specs.Refusals.{and_then}
 use Rattle.solver_laws.specs.Contexts.{AcceptedMet, ContextLaws, EmptyRefused, RefusedEmpty}
 use Rattle.solver_laws.specs.Meaning.{HasSetting}
 use Rattle.solver_laws.proofs.Accepted.{Counted, counted, run_of, system-fits}

@@ -12,7 +12,8 @@ use Rattle.tree.specs.Trees.{Tree, leaf, new, nodes, none, split}
 use Rattle.solver.specs.declared.count.Count.{Count}
 use Rattle.solver.specs.Runs.{Limits, Outcome, Run, bar, fail, met_at, next, noted, refuse, return, stepped, tick, write, ◌>>=◌, ◌>>◌}
 use Rattle.solver.specs.Rules.{Work, has_point, node, test}
-use Rattle.solver.specs.Solves.{and_then, begun, context_of, fuel_fits, keeps, run, solved, start, system_fits}
+use Rattle.solver.specs.Solves.{begun, context_of, fuel_fits, keeps, run, solved, start, system_fits}
+use Rattle.base.specs.Refusals.{and_then}
 use Rattle.solver_laws.specs.Laws.{NodesCounted}
 use Rattle.solver_laws.proofs.Closed.{Grows, Passes, of_node, of_test}
 

@@ -9,7 +9,8 @@ use Rattle.source.specs.Systems.{System}
 use Rattle.tree.specs.Trees.{Tree}
 use Rattle.solver.specs.declared.count.Count.{Count}
 use Rattle.solver.specs.Runs.{Outcome}
-use Rattle.solver.specs.Solves.{and_then, fuel_fits, run, solved, start, system_fits}
+use Rattle.solver.specs.Solves.{fuel_fits, run, solved, start, system_fits}
+use Rattle.base.specs.Refusals.{and_then}
 use Rattle.solver_laws.specs.Fuel.{Enough, FuelLaw, LessSpent, MoreRefused, Spent, TooLittle}
 use Rattle.solver_laws.proofs.Closed.{of_words}
 use Rattle.solver_laws.proofs.Inside.{within-fuel}

@@ -10,7 +10,8 @@ use Rattle.tree.specs.Trees.{Tree}
 use Rattle.source.specs.Systems.{System}
 use Rattle.solver.specs.declared.count.Count.{Count}
 use Rattle.solver.specs.Runs.{Limits, Outcome, Run, bar, fail, met_at, next, noted, refuse, return, stepped, tick, write, ◌>>=◌, ◌>>◌}
-use Rattle.solver.specs.Solves.{and_then, fuel_fits, solved, start, system_fits}
+use Rattle.solver.specs.Solves.{fuel_fits, solved, start, system_fits}
+use Rattle.base.specs.Refusals.{and_then}
 use Rattle.solver_laws.proofs.Closed.{Words, of_words}
 
 abbrev Inside : Limits → Count → Type 0

@@ -12,7 +12,8 @@ use Rattle.tree.specs.Trees.{Tree}
 use Rattle.solver.specs.declared.count.Count.{Count}
 use Rattle.solver.specs.Runs.{Limits, Outcome, Run, bar, fail, met_at, next, noted, refuse, return, stepped, tick, write, ◌>>=◌, ◌>>◌}
 use Rattle.solver.specs.Rules.{plenty}
-use Rattle.solver.specs.Solves.{and_then, fitted, fuel_fits, numbers_fit, rows_of, run, solved, start, system_fits}
+use Rattle.solver.specs.Solves.{fitted, fuel_fits, numbers_fit, rows_of, run, solved, start, system_fits}
+use Rattle.base.specs.Refusals.{and_then}
 use Rattle.solver_laws.specs.Fuel.{SpentWhole}
 use Rattle.solver_laws.proofs.FuelRange.{first, fits-ok}
 use Rattle.solver.specs.Ties.{limits}

@@ -4,6 +4,7 @@ use Rattle.std.specs.List.{list_all}
 use Rattle.base.specs.declared.refusal.Refusal.{Refusal}
 use Rattle.base.specs.declared.refusal.Refusal.TheVariants.{NoTree, PointLength, PointNumber, OutsideKeep}
 use Rattle.base.specs.Forms.{value_at}
+use Rattle.base.specs.Refusals.{and_then}
 use Rattle.tree.specs.declared.node.Node.{Node}
 use Rattle.tree.specs.declared.node.Node.TheVariants.{Head, Keep, Split, New, Leaf, None as Blank}
 use Rattle.tree.specs.declared.walk.Found.{Found}
@@ -66,18 +67,10 @@ head_fits n p = (nat_le 1 n && nat_le n 6) && nat_le p 4
 abbrev pub point_answer : ℕ → List ℤ → Result (Unit {0}) Refusal
 point_answer p point = cond (length point == p) (cond (is_point point) (Ok tt) (Err PointNumber)) (Err PointLength)
 
--- the setting of a point for p parameters
-abbrev pub setting_of : List ℤ → ℕ → Result (List ℤ) Refusal
-setting_of point p = cond (length point == p) (cond (is_point point) (Ok (spread point)) (Err PointNumber)) (Err PointLength)
-
-abbrev pub ask_at : ℕ → List Node → Result (List ℤ) Refusal → Result (Option (List ℤ)) Refusal
-ask_at n list (Ok ρ) = kept_answer n ρ list
-ask_at n list (Err e) = Err e
-
 -- what a question to the list comes to: a point, none, or why it is refused
 abbrev pub found_in : List Node → List ℤ → Result (Option (List ℤ)) Refusal
 found_in [] point = Err NoTree
-found_in (Head n p ∷ rest) point = cond (head_fits n p) (ask_at n rest (setting_of point p)) (Err NoTree)
+found_in (Head n p ∷ rest) point = cond (head_fits n p) (and_then (point_answer p point) (kept_answer n (spread point) rest)) (Err NoTree)
 found_in (Keep C ∷ rest) point = Err NoTree
 found_in (Split C ∷ rest) point = Err NoTree
 found_in (New d T ∷ rest) point = Err NoTree

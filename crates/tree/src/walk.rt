@@ -1,8 +1,8 @@
 //! What a list of nodes answers at a parameter point.
 ghost use Rattle.std.specs.Prelude.{◌≡◌, ◌+◌, ◌<◌, ◌≤◌, true, MatchResult, OnOk, Ok, Err, length};
-ghost use Rattle.tree.specs.Finds.{all_below, found_in, head_fits, is_point, kept_answer, left_of, point_answer, said_of, setting_of};
+ghost use Rattle.tree.specs.Finds.{all_below, found_in, head_fits, is_point, kept_answer, left_of, point_answer, said_of, spread};
 ghost use Rattle.tree.specs.Parts.{Kept, Sixes};
-ghost use Rattle.tree.specs.Questions.{AnswersAsTree};
+ghost use Rattle.tree.specs.Questions.{AnswersAsTree, AnswersWithinLimits};
 
 use crate::known::Known;
 use crate::node::{Node, NodeForm};
@@ -173,7 +173,7 @@ pub fn check_point(point: &[i64], p: usize) -> Result<(), Refusal>
 /// What a point sets the parameters to, unless it is refused.
 fn known_at(point: &[i64], p: u8) -> Result<Known, Refusal>
     requires few { p ≤ 4 }
-    ensures value { MatchResult result (λ k. (Ok k.setting ≡ setting_of point.now p) × (k.made ≡ 0)) (λ e. Err e ≡ setting_of point.now p) }
+    ensures value { MatchResult result (λ k. (point_answer p point.now ≡ Ok tt) × ((k.setting ≡ spread point.now) × (k.made ≡ 0))) (λ e. point_answer p point.now ≡ Err e) }
 {
     check_point(point, usize::from(p))?;
     Ok(Known::of(point))
@@ -213,11 +213,12 @@ fn find_in(nodes: &[Node], point: &[i64]) -> Result<Option<[i64; 6]>, Refusal>
 /// parameters (41), a point not of p numbers (42), a number not from 0 to 1,000,000 (43), a point
 /// outside a keep (44). Refused, or where there is no point, the place holds zeros. A list that is not that of a tree
 /// answers too, by the same walk: where it cannot go on there is no point.
-#[tactic(auto, using(crate::proofs::Walking::as_tree))]
+#[tactic(auto, using(crate::proofs::Walking::as_tree, crate::proofs::Walking::as_within))]
 pub fn find(nodes: &[Node], point: &[i64], place: &mut [i64; 6]) -> Result<Found, Refusal>
     ensures answer { result ≡ said_of (found_in nodes.now point.now) }
     ensures left { place.new ≡ left_of (found_in nodes.now point.now) }
     ensures law { AnswersAsTree nodes.now point.now }
+    ensures limits { AnswersWithinLimits nodes.now point.now }
 {
     *place = [0; 6];
     match find_in(nodes, point)? {

@@ -4,4 +4,4 @@ use Rattle.figures.proofs.figures_stand.Goals as goal
 
 pub returns : goal.returns
 unfolding computing
-returns c = (refl, (refl, (refl, (refl, ((refl, refl), ((refl, refl), (refl, (refl, (refl, (refl, (refl, (refl, (refl, (refl, tt))))))))))))))
+returns c = record { stand = (refl, (refl, (refl, (refl, ((refl, refl), ((refl, refl), (refl, (refl, (refl, (refl, (refl, (refl, (refl, (refl, tt)))))))))))))); count = refl }

@@ -1,9 +1,9 @@
 //! What a page store does.
 ghost use Rattle.std.specs.Prelude.{◌≡◌, ◌+◌, ◌<◌, ◌≤◌, true, take, vec_len, slice_set};
-ghost use Rattle.store.specs.Stores.{fresh, used};
+ghost use Rattle.store.specs.Stores.{after_finish, after_put, after_scrap, begun, close_answer, fresh, put_answer, used};
 ghost use Rattle.page.specs.Records.{holdable, page_of, pasted, record_of};
 ghost use Rattle.page_store.specs.Costs.{byte_cost};
-ghost use Rattle.page_store.specs.PageStores.{meaning_of, offset_of};
+ghost use Rattle.page_store.specs.PageStores.{bytes_after_put, bytes_of, meaning_of, offset_of};
 ghost use Rattle.tree.specs.Kinds.{kind_of};
 
 use super::{PageDraft, PageStore, Pages};
@@ -19,6 +19,7 @@ impl PageStore {
     /// A store over this page, closed and empty.
     pub fn new(page: Vec<u8>, index: Vec<usize>) -> PageStore
         ensures answer { meaning_of result ≡ fresh (vec_len page) byte_cost }
+        ensures bytes { bytes_of result ≡ page.items }
     {
         PageStore {
             page,
@@ -52,7 +53,7 @@ impl PageStore {
 
     /// The whole page, taken out again.
     pub fn into_page(self) -> Vec<u8>
-        ensures answer { result.items ≡ self.page.items }
+        ensures answer { result.items ≡ bytes_of self }
         ensures listed { take (used byte_cost (meaning_of self).nodes) result.items ≡ page_of (meaning_of self).nodes }
     {
         let PageStore { page, .. } = self;
@@ -79,18 +80,26 @@ fn write(page: &mut Vec<u8>, at: usize, node: &Node)
     put_at(node, page.as_mut_slice(), at);
 }
 
+// The trait speaks of the meaning. What stands in the page after the listed part is said here besides.
 impl Store for PageStore {
     type Draft = PageDraft;
 
     ghost meaning = { meaning_of };
 
-    fn begin(&mut self) -> PageDraft {
+    fn begin(&mut self) -> PageDraft
+        ensures left { meaning_of self.new ≡ begun (meaning_of self.old) }
+        ensures bytes { bytes_of self.new ≡ bytes_of self.old }
+    {
         self.count = 0;
         self.used = 0;
         self.gate.open()
     }
 
-    fn put(&mut self, draft: &PageDraft, node: Node) -> Result<(), Refusal> {
+    fn put(&mut self, draft: &PageDraft, node: Node) -> Result<(), Refusal>
+        ensures answer { result ≡ put_answer (meaning_of self.old) node }
+        ensures left { meaning_of self.new ≡ after_put (meaning_of self.old) node }
+        ensures bytes { bytes_of self.new ≡ bytes_after_put self.old node }
+    {
         self.gate.pass(draft)?;
         let units = record_length(node.kind());
         let used = self.used;
@@ -106,11 +115,19 @@ impl Store for PageStore {
         Ok(())
     }
 
-    fn finish(&mut self, draft: PageDraft) -> Result<(), Refusal> {
+    fn finish(&mut self, draft: PageDraft) -> Result<(), Refusal>
+        ensures answer { result ≡ close_answer (meaning_of self.old) }
+        ensures left { meaning_of self.new ≡ after_finish (meaning_of self.old) }
+        ensures bytes { bytes_of self.new ≡ bytes_of self.old }
+    {
         self.gate.close(draft)
     }
 
-    fn scrap(&mut self, draft: PageDraft) -> Result<(), Refusal> {
+    fn scrap(&mut self, draft: PageDraft) -> Result<(), Refusal>
+        ensures answer { result ≡ close_answer (meaning_of self.old) }
+        ensures left { meaning_of self.new ≡ after_scrap (meaning_of self.old) }
+        ensures bytes { bytes_of self.new ≡ bytes_of self.old }
+    {
         self.finish(draft)?;
         self.count = 0;
         self.used = 0;

@@ -1,7 +1,8 @@
 use Rattle.std.proofs.Common.{◌≡◌, sym, subst, rules}
 use Rattle.page.specs.Pages.{Accepted, Refused, WrittenAccepted, checked}
 use Rattle.page.proofs.Checking.{bytes_of}
-use Rattle.page.proofs.Reading.{accepted, refused, written}
+use Rattle.page.proofs.Reading.{refused, written}
+use Rattle.page.proofs.Regained.{accepted}
 use Rattle.page.proofs.check.check.Goals as goal
 
 pub returns : goal.returns

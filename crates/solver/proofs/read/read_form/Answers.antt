@@ -2,7 +2,8 @@ use Rattle.std.proofs.Common.{◌≡◌, ℕ, ◌+◌, ◌<◌, [], get_or, take
 use Rattle.std.proofs.lemmas.Result.{err_from_is_err_and}
 use Rattle.base.specs.Numbers.{at}
 use Rattle.source.specs.Limits.{numbers_answer}
-use Rattle.solver.specs.Solves.{and_then, fitted, form_of}
+use Rattle.solver.specs.Solves.{fitted, form_of}
+use Rattle.base.specs.Refusals.{and_then}
 use Rattle.solver.proofs.Reading.{fitted-asked}
 use Rattle.solver.proofs.read.read_form.Goals as goal
 

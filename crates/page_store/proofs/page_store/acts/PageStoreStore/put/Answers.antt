@@ -1,14 +1,23 @@
-use Rattle.std.proofs.Common.{◌≡◌, ◌+◌, ◌≤◌, true, [], ◌∷◌, ◌++◌, length, take, vec_items, sym, ap, ◌∙◌, subst, arith, length-append}
+use Rattle.std.proofs.Common.{◌≡◌, ◌+◌, ◌≤◌, true, cond, [], ◌∷◌, ◌++◌, length, take, is_ok, Ok, Err, Result, vec_items, sym, ap, ◌∙◌, subst, arith, length-append}
+use Rattle.base.specs.declared.refusal.Refusal.{Refusal}
+use Rattle.base.specs.declared.refusal.Refusal.TheVariants.{StoreFull}
+use Rattle.tree.specs.declared.node.Node.{Node}
 use Rattle.tree.specs.Kinds.{kind_of}
-use Rattle.page.specs.Records.{all_holdable, nodes_in, page_of}
+use Rattle.store.specs.Stores.{put_answer}
+use Rattle.page.specs.Records.{all_holdable, nodes_in, page_of, pasted, record_of}
 use Rattle.store.proofs.Rooms.{passed-open, put-fits, put_full, same-meaning}
 use Rattle.page_store.specs.Costs.{byte_cost}
 use Rattle.page_store.specs.Listed.{Indexed}
-use Rattle.page_store.specs.PageStores.{meaning_of}
+use Rattle.page_store.specs.PageStores.{bytes_after_put, bytes_of, meaning_of}
+use Rattle.page_store.specs.declared.page_store.PageStore.{PageStore}
 use Rattle.page.proofs.Holding.{all-to, holdable-from}
 use Rattle.page_store.proofs.Kept.{all-held, length-listed, listed, used-is}
 use Rattle.page_store.proofs.Standing.{cost-some, count-page, holdable-append, put-index, put-nodes, put_whole}
 use Rattle.page_store.proofs.page_store.acts.PageStoreStore.put.Goals as goal
+
+-- the page by what a put answers
+wrote : (s : PageStore) (x : Node) (r : Result (Unit {0}) Refusal) → put_answer (meaning_of s) x ≡ r → bytes_after_put s x ≡ cond (is_ok r) (pasted (length (page_of (listed s))) (record_of x) (bytes_of s)) (bytes_of s)
+wrote s x r e = ap (λ o. cond (is_ok o) (pasted (length (page_of (listed s))) (record_of x) (bytes_of s)) (bytes_of s)) e
 
 pub returns-then-free-units : goal.returns-then-free-units
 returns-then-free-units c =
@@ -18,7 +27,7 @@ returns-then-free-units c =
     let u : c.record_length-units.result ≡ byte_cost (kind_of c.args.node) = c.record_length-units.ensures.value ∙ ap byte_cost c.kind.ensures.answer in
     let l = used-is s in
     let p = put_full (meaning_of s) c.args.node is_open (omega arith) in
-    record { answer = sym p.0; left = sym p.1 }
+    record { answer = sym p.0; left = sym p.1; bytes = sym (wrote s c.args.node (Err StoreFull) p.0) }
 
 pub overflow_add-self : goal.overflow_add-self
 overflow_add-self c =
@@ -69,4 +78,8 @@ returns c =
     let l = used-is s in
     let e = put-nodes page (vec_items c.write.new.page) s.used s.count xs x all (holdable-from x c.write.ensures.numbers) s.all room s.whole c.write.ensures.left in
     let p = put-fits (meaning_of s) x is_open (omega arith) in
-    record { answer = sym p.0; left = same-meaning _ _ _ _ _ _ _ e is_open c.write.ensures.size ∙ sym p.1 }
+    record {
+      answer = sym p.0;
+      left = same-meaning _ _ _ _ _ _ _ e is_open c.write.ensures.size ∙ sym p.1;
+      bytes = c.write.ensures.left ∙ ap (λ n. pasted n (record_of x) page) (sym (length-listed s)) ∙ sym (wrote s x (Ok tt) p.0);
+    }
