@@ -4,6 +4,7 @@ use borrow.Author.Differences.{ints}
 use Rattle.base.specs.Numbers.{floor_by, floor_div, mod_by, modulo}
 use Rattle.base.specs.Forms.{dot}
 use Rattle.algebra.specs.Lists.{NonNeg}
+use Rattle.algebra.specs.Laws.{OneRemainder}
 use Rattle.algebra.proofs.Ring.{◌⊕◌, ◌⊖◌, ◌⊗◌, num, ring}
 use Rattle.algebra.proofs.Claims.{given, goal, ring-from}
 
@@ -33,7 +34,7 @@ zero-multiple (pos m) (pos (suc n)) w h e l u = absurd (let no : ⊥ = omega (ar
 zero-multiple (pos m) (negsuc n) w h e l u = absurd (let no : ⊥ = omega (arith, ints) in no)
 
 -- there is only one remainder
-pub modulo-unique : (z d q r : ℤ) → pos 0 <ℤ d → Divided z d q r → modulo z d ≡ r
+modulo-unique : (z d q r : ℤ) → pos 0 <ℤ d → Divided z d q r → modulo z d ≡ r
 modulo-unique z d q r h u =
     let v = divided z d h in
     same (modulo z d) r (zero-multiple d (q -ℤ floor_div z d) (modulo z d -ℤ r) h (law z d q r (floor_div z d) (modulo z d) u.is v.is) (above (modulo z d) r d v.low u.high) (below (modulo z d) r d v.high u.low))
@@ -49,6 +50,11 @@ modulo-unique z d q r h u =
 
     law : (z d q r p s : ℤ) → z ≡ d *ℤ q +ℤ r → z ≡ d *ℤ p +ℤ s → s -ℤ r ≡ d *ℤ (q -ℤ p)
     law = ring-from 6 (λ z d q r p s. given (num (pos 1)) z (d ⊗ q ⊕ r) (given (num (negsuc 0)) z (d ⊗ p ⊕ s) (goal (s ⊖ r) (d ⊗ (q ⊖ p))))) refl
+
+pub one-remainder : OneRemainder
+one-remainder a d h =
+    let v = divided a d h in
+    ((v.is, (v.low, v.high)), λ q r is low high. sym (modulo-unique a d q r h (record { is = is; low = low; high = high })))
 
 -- the quotient of a natural number is natural
 pub floor-nonneg : (z d : ℤ) → pos 0 ≤ℤ z → pos 0 ≤ℤ floor_div z d

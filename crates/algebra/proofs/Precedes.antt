@@ -1,12 +1,10 @@
 -- Which point precedes which.
-use Rattle.std.proofs.Common.{◌≡◌, ℕ, ◌<◌, ◌≤◌, ◌⊎◌, List, [], ◌∷◌, map, length, ℤ, pos, nat_abs, ◌<ℤ◌, sym, refl, ◌∙◌, inl, inr, arith}
+use Rattle.std.proofs.Common.{◌≡◌, ℕ, ◌<◌, ◌≤◌, ◌⊎◌, List, [], ◌∷◌, map, length, pos, ◌<ℤ◌, sym, refl, ◌∙◌, inl, inr, arith}
 use borrow.Author.Differences.{ints}
 use Rattle.std.proofs.lemmas.Bool.{cases_lt}
 use Rattle.source.specs.Systems.{Precedes}
 use Rattle.algebra.specs.Laws.{LexPrecedes, PrecedesStrict, PrecedesTotal, PrecedesTransitive}
-use Rattle.algebra.specs.Lists.{NonNeg}
 use Rattle.algebra.specs.Orders.{LexLe}
-use Rattle.algebra.proofs.Naturals.{pos-sizes}
 
 pub precedes-trans : PrecedesTransitive
 precedes-trans [] ys zs p q = absurd p
@@ -67,7 +65,3 @@ precedes-lex [] ys e p = absurd p
 precedes-lex (x ∷ xs) [] e p = absurd p
 precedes-lex (x ∷ xs) (y ∷ ys) e (inl a) = inl (omega (arith, ints))
 precedes-lex (x ∷ xs) (y ∷ ys) e (inr a) = inr (omega (arith, ints, a.0), precedes-lex xs ys (omega arith) a.1)
-
--- natural points given as whole numbers
-pub lex-sizes : (xs ys : List ℤ) → NonNeg xs → NonNeg ys → LexLe xs ys → (map nat_abs xs ≡ map nat_abs ys) ⊎ Precedes (map nat_abs xs) (map nat_abs ys)
-lex-sizes xs ys n m h = lex-precedes (map nat_abs xs) (map nat_abs ys) (rw (pos-sizes xs n, pos-sizes ys m) h)

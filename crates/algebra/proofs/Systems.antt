@@ -1,8 +1,7 @@
 -- The value of a system's row, parted into that of the unknowns and that of the parameters.
-use Rattle.std.proofs.Common.{◌≡◌, ℕ, List, [], ◌∷◌, ◌++◌, map, length, take, drop, ℤ, pos, ◌+ℤ◌, ◌≤ℤ◌, sym, ap, ◌∙◌, subst}
+use Rattle.std.proofs.Common.{◌≡◌, ℕ, List, [], ◌∷◌, ◌++◌, map, length, take, drop, ℤ, pos, ◌+ℤ◌, ap, ◌∙◌}
 use Rattle.std.proofs.lemmas.List.{append_assoc, length-map, map-append}
 use Rattle.base.specs.Forms.{dot}
-use Rattle.source.specs.Systems.{Holds}
 use Rattle.algebra.proofs.Dots.{dot-split}
 
 pub row-parts : (row : List ℤ) (x z : List ℕ) (n : ℕ) → length x ≡ n → dot row (map pos (x ++ z) ++ (pos 1 ∷ [])) ≡ dot (take n row) (map pos x) +ℤ dot (drop n row) (map pos z ++ (pos 1 ∷ []))
@@ -11,9 +10,3 @@ row-parts row x z n e =
     ∙ ap (dot row) (append_assoc (map pos x) (map pos z) (pos 1 ∷ []))
     ∙ dot-split row (map pos x) (map pos z ++ (pos 1 ∷ []))
     ∙ ap (λ k. dot (take k row) (map pos x) +ℤ dot (drop k row) (map pos z ++ (pos 1 ∷ []))) (length-map x pos ∙ e)
-
-pub holds_parts : (row : List ℤ) (x z : List ℕ) (n : ℕ) → length x ≡ n → Holds row (x ++ z) → pos 0 ≤ℤ (dot (take n row) (map pos x) +ℤ dot (drop n row) (map pos z ++ (pos 1 ∷ [])))
-holds_parts row x z n e h = subst (λ v. pos 0 ≤ℤ v) (row-parts row x z n e) h
-
-pub parts-hold : (row : List ℤ) (x z : List ℕ) (n : ℕ) → length x ≡ n → pos 0 ≤ℤ (dot (take n row) (map pos x) +ℤ dot (drop n row) (map pos z ++ (pos 1 ∷ []))) → Holds row (x ++ z)
-parts-hold row x z n e h = subst (λ v. pos 0 ≤ℤ v) (sym (row-parts row x z n e)) h

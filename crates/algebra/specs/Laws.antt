@@ -1,9 +1,16 @@
 -- What the lemma files of this crate come to.
-use Rattle.std.specs.Prelude.{◌≡◌, ℕ, ◌⊎◌, List, map, length, ℤ, pos, ◌+ℤ◌, ◌*ℤ◌}
+use Rattle.std.specs.Prelude.{◌≡◌, ℕ, ◌⊎◌, List, map, length, ℤ, pos, ◌+ℤ◌, ◌*ℤ◌, ◌≤ℤ◌, ◌<ℤ◌}
 use Rattle.base.specs.Forms.{dot}
+use Rattle.base.specs.Numbers.{floor_div, modulo}
 use Rattle.source.specs.Systems.{Precedes}
 use Rattle.algebra.specs.Lists.{NonNeg, column, plus, products, scaled}
 use Rattle.algebra.specs.Orders.{LexLe, LexNN}
+
+-- a is d times floor(a / d) and a modulo d more, which is from 0 to d - 1; and no other number from there differs from a by a multiple of d
+abbrev pub OneRemainder : Type 0
+OneRemainder =
+    (a d : ℤ) → pos 0 <ℤ d →
+    ((a ≡ d *ℤ floor_div a d +ℤ modulo a d) × ((pos 0 ≤ℤ modulo a d) × (modulo a d <ℤ d))) × ((q r : ℤ) → a ≡ d *ℤ q +ℤ r → pos 0 ≤ℤ r → r <ℤ d → r ≡ modulo a d)
 
 -- products of a linear combination
 abbrev pub DotLinear : Type 0
@@ -29,4 +36,4 @@ abbrev pub LexPrecedes : Type 0
 LexPrecedes = (xs ys : List ℕ) → LexLe (map pos xs) (map pos ys) → (xs ≡ ys) ⊎ Precedes xs ys
 
 abbrev pub AlgebraStands : Type 0
-AlgebraStands = DotLinear × ColumnsCombine × PrecedesTotal × PrecedesTransitive × PrecedesStrict × LexPrecedes
+AlgebraStands = OneRemainder × DotLinear × ColumnsCombine × PrecedesTotal × PrecedesTransitive × PrecedesStrict × LexPrecedes

@@ -186,23 +186,6 @@ shaped-bound L i numbers e s h =
 abbrev pub plus_cell : Loops → List ℤ → Loops
 plus_cell L numbers = record { n = L.n; p = L.p; bounds = L.bounds; cells = L.cells ++ numbers ∷ []; context = L.context }
 
-pub shaped-cell : (L : Loops) (numbers : List ℤ) → length numbers ≡ L.n + L.p + 1 → length L.cells < 3 → AllWithin 300 numbers → Shaped L → Shaped (plus_cell L numbers)
-shaped-cell L numbers e c s h =
-    record {
-      some_loop = h.some_loop;
-      few_loops = h.few_loops;
-      few_parameters = h.few_parameters;
-      each_bounded = h.each_bounded;
-      bounds_long = h.bounds_long;
-      bounds_small = h.bounds_small;
-      few_cells = let l = length_push L.cells numbers in omega (arith, l);
-      cells_long = long-push (L.n + L.p + 1) L.cells numbers h.cells_long e;
-      cells_small = small-push 300 L.cells numbers h.cells_small s;
-      few_context = h.few_context;
-      context_long = h.context_long;
-      context_small = h.context_small;
-    }
-
 -- ---- a context row more
 pub row-taken : (w c m : ℕ) (row : List ℤ) → is_ok (row_answer w c m row) ≡ true → (length row ≡ w) × ((c < m) × AllWithin 1000000 row)
 row-taken w c m row e = go (eqb (length row) w && ltb c m) refl e

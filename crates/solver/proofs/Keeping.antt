@@ -16,14 +16,6 @@ use Rattle.solver.specs.declared.count.Count.{Count}
 use Rattle.solver.specs.declared.state.State.{State}
 use Rattle.solver.specs.Bounds.{SameContext, StateReady, Stepped}
 
--- a fact of each place of a list holds after a write of a value that has it
-pub each_set : {X : Type 0} (P : X → Type 0) (d : X) (n : ℕ) (xs : List X) (i : ℕ) (v : X) → P v → ((k : ℕ) → k < n → P (get_or xs k d)) → (k : ℕ) → k < n → i < length xs → P (get_or (set xs i v) k d)
-each_set P d n xs i v p all k below inside =
-    ⊎_elim
-    (λ (e : k ≡ i). subst (λ m. P (get_or (set xs i v) m d)) (sym e) (subst P (sym (get_or-set_same xs i v d inside)) p))
-    (λ (ne : k ≢ i). subst P (sym (get_or-set_other xs i k v d ne)) (all k below))
-    (cases_eq k i)
-
 -- one more at the end
 pub each-push : {X : Type 0} (P : X → Type 0) (d : X) (n : ℕ) (xs : List X) (v : X) → n < length xs → P v → ((k : ℕ) → k < n → P (get_or xs k d)) → (k : ℕ) → k < n + 1 → P (get_or (set xs n v) k d)
 each-push P d n xs v inside p all k below =

@@ -1,7 +1,7 @@
 -- The rows that a table starts from, one more at a time and place by place.
-use Rattle.std.proofs.Common.{◌≡◌, ℕ, zero, suc, ◌+◌, ◌-◌, ◌<◌, ◌≤◌, List, [], ◌∷◌, ◌++◌, length, take, drop, ℤ, pos, sym, ap, ◌∙◌, add-one, arith}
-use Rattle.std.proofs.lemmas.List.{length-append, length-drop, length-replicate, length-take, get_or_append_left, get_or-append_right, get_or-drop, get_or-replicate, get_or-take}
-use Rattle.base.specs.Numbers.{at, zeros}
+use Rattle.std.proofs.Common.{◌≡◌, ℕ, zero, suc, ◌+◌, ◌-◌, ◌≤◌, List, [], ◌∷◌, ◌++◌, length, take, drop, ℤ, pos, sym, ap, ◌∙◌, add-one, arith}
+use Rattle.std.proofs.lemmas.List.{length-append, length-drop, length-replicate, length-take}
+use Rattle.base.specs.Numbers.{zeros}
 use Rattle.solver.specs.Tests.{test_row}
 use Rattle.tableau.specs.Tables.{unit_row, unit_rows}
 
@@ -28,18 +28,3 @@ module _ (p made : ℕ) (C : List ℤ) (hp : p ≤ 4) (hm : made ≤ 5) (long : 
       let f = front in
       let m = middle in
       omega arith
-
-  pub at-parameter : (l : ℕ) → l < p → at (test_row p made C).coefs l ≡ at C l
-  at-parameter l h = get_or_append_left (take p C) _ (pos 0) l (let f = front in omega arith) ∙ get_or-take p C l (pos 0) h
-
-  pub at_new : (l : ℕ) → p ≤ l → l - p < made → at (test_row p made C).coefs l ≡ at C (4 + (l - p))
-  at_new l h k =
-      get_or-append_right (take p C) (take made (drop 4 C) ++ zeros (9 - (p + made))) p l (pos 0) front h
-      ∙ get_or_append_left (take made (drop 4 C)) _ (pos 0) (l - p) (let m = middle in omega arith)
-      ∙ get_or-take made (drop 4 C) (l - p) (pos 0) k ∙ get_or-drop 4 C (l - p) (pos 0)
-
-  pub at-unused : (l : ℕ) → l < 9 → p ≤ l → made ≤ l - p → at (test_row p made C).coefs l ≡ pos 0
-  at-unused l w h k =
-      get_or-append_right (take p C) (take made (drop 4 C) ++ zeros (9 - (p + made))) p l (pos 0) front h
-      ∙ get_or-append_right (take made (drop 4 C)) (zeros (9 - (p + made))) made (l - p) (pos 0) middle k
-      ∙ get_or-replicate (9 - (p + made)) (l - p - made) (pos 0) (pos 0) (omega arith)

@@ -124,10 +124,6 @@ pub record Kept (ctx : Context) (a : List TreeNode) (start : Count) (k : ℕ) (b
   pub wrote : Wrote a start.nodes (map Keep (take k (in_force ctx))) b
   pub left : (fuel : ℕ) → keeps (drop k (in_force ctx)) (limits fuel (length a)) c ≡ keeps (in_force ctx) (limits fuel (length a)) start
 
-pub kept-none : (ctx : Context) (a : List TreeNode) (start : Count) → Kept ctx a start 0 a start
-kept-none ctx a start =
-    record { inside = omega arith; steps = refl; nodes = omega arith; room = λ h. h; long = refl; wrote = wrote_none a start.nodes; left = λ fuel. refl }
-
 module _ (ctx : Context) (a : List TreeNode) (start : Count) (k : ℕ) (b : List TreeNode) (c : Count) (i : Kept ctx a start k b c) where
   module _ (here : k < length (in_force ctx)) where
     pub kept_more : (b' : List TreeNode) (d : Count) (form : List ℤ) → form ≡ get_or (in_force ctx) k [] → Ok d ≡ noted_in (length b) c → Wrote b c.nodes (Keep form ∷ []) b' → Kept ctx a start (k + 1) b' d

@@ -10,4 +10,3 @@ pub mod CutKeeps
 pub mod Ends
 pub mod Leaves
 pub mod Start
-pub mod Tables
