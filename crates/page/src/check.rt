@@ -11,6 +11,13 @@ use base::refusal::Refusal;
 use tree::kind::Kind;
 use tree::walk::head_fits;
 
+/// A head may have so many keeps below it.
+const MAX_KEEPS: u8 = 8;
+/// So many splits may stand one below the other.
+const MAX_SPLITS: u8 = 12;
+/// So many new parameters may stand on a path.
+const MAX_NEW: u8 = 5;
+
 /// A refused record: why, and the page from its kind byte on.
 #[derive(Drop, Clone, Copy)]
 pub struct Fault<'a> {
@@ -62,7 +69,7 @@ impl Below {
     {
         match Kind::try_from(kind) {
             Ok(Kind::Split) if self.left == 0 => Some(Flaw::Depth),
-            Ok(Kind::New) if self.made >= 5 => Some(Flaw::Depth),
+            Ok(Kind::New) if self.made >= MAX_NEW => Some(Flaw::Depth),
             Ok(Kind::Split | Kind::New | Kind::Leaf | Kind::None) => None,
             Ok(Kind::Head | Kind::Keep) | Err(_) => Some(Flaw::Kind),
         }
@@ -225,12 +232,12 @@ fn whole<'a>(page: &'a [u8]) -> Result<usize, Fault<'a>>
     ensures value { WholeReads page.now result }
 {
     let top = head(page)?;
-    let (below, kept) = keeps(top.rest, top.p, 8)?;
+    let (below, kept) = keeps(top.rest, top.p, MAX_KEEPS)?;
     let start = Below {
         n: top.n,
         p: top.p,
         made: 0,
-        left: 12,
+        left: MAX_SPLITS,
     };
     let (end, count) = start.node(below)?;
     if end.is_empty() {

@@ -4,11 +4,9 @@ ghost use Rattle.page.specs.Fits.{form_fits, leaf_fits, new_fits, number_fits, u
 ghost use Rattle.base.specs.Numbers.{all_zero};
 ghost use Rattle.page.specs.Words.{forms, word, words};
 
+use base::number::is_small;
 use tree::node::NodeForm;
 use tree::walk::all_below;
-
-/// The largest size of a number: 2^30.
-const RANGE: u32 = 1 << 30;
 
 /// The largest divisor of a new parameter: 2^30.
 const LARGEST: i32 = 1 << 30;
@@ -74,7 +72,7 @@ fn is_usable(p: u8, made: u8, k: usize) -> bool
 fn number_fits(p: u8, made: u8, k: usize, x: i32) -> bool
     ensures value { result ≡ number_fits p made k x }
 {
-    x.unsigned_abs() <= RANGE && (is_usable(p, made, k) || x == 0)
+    is_small(i64::from(x)) && (is_usable(p, made, k) || x == 0)
 }
 
 /// Whether a form is within the limits.

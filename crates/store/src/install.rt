@@ -27,6 +27,7 @@ fn replace<T: Store>(store: &mut T, nodes: &[Node]) -> Result<(), Refusal>
     fits(store, nodes)?;
     let draft = store.begin();
     for node in nodes {
+        // never: all of them fit, and the store is open. A draft has to be taken back all the same
         if let Err(refusal) = store.put(&draft, *node) {
             let _ = store.scrap(draft);
             return Err(refusal);
