@@ -1,5 +1,5 @@
 -- Nodes read back from a page.
-use Rattle.std.proofs.Common.{◌≡◌, ℕ, zero, suc, ◌+◌, ◌-◌, ◌<◌, ◌≤◌, List, [], ◌∷◌, ◌++◌, map, length, get_or, replicate, ℤ, Ok, Err, sym, refl, ap, ◌∙◌, subst, ap₂, arith, length-append, Bor}
+use Rattle.std.proofs.Common.{◌≡◌, ℕ, zero, suc, ◌+◌, ◌-◌, ◌<◌, ◌≤◌, List, [], ◌∷◌, ◌++◌, map, length, get_or, replicate, ℤ, Ok, Err, sym, refl, ap, ◌∙◌, subst, ap₂, append_assoc, append-nil, arith, length-append, Bor}
 use Rattle.std.proofs.lemmas.List.{length-replicate}
 use Rattle.tree.specs.declared.node.Node.{Node}
 use Rattle.tree.specs.declared.node.Node.TheVariants.{Head, Keep, Split, New, Leaf, None as Blank}
@@ -64,13 +64,27 @@ some_bytes (New d T) = omega arith
 some_bytes (Leaf Cs) = omega arith
 some_bytes Blank = omega arith
 
-pub list_back : (f : ℕ) (list : List Node) → AllHoldable list → length (page_of list) ≤ f → nodes_in f (page_of list) ≡ list
-list_back zero [] w l = refl
-list_back (suc f) [] w l = refl
-list_back zero (node ∷ rest) w l = absurd (let no : ⊥ = omega (arith, l, some_bytes node, length-append (record_of node) (page_of rest)) in no)
-list_back (suc f) (node ∷ rest) w l =
-    let b = node-back node (page_of rest) w.0 in
-    ap (nodes_from (nodes_in f)) b.1.1.0 ∙ ap₂ ◌∷◌ b.1.1.1 (list_back f rest w.1 (omega (arith, l, some_bytes node, length-append (record_of node) (page_of rest))))
+pub count-page : (xs : List Node) → length xs ≤ length (page_of xs)
+count-page [] = omega arith
+count-page (x ∷ xs) = let a = length-append (record_of x) (page_of xs) in let b = some_bytes x in let c = count-page xs in omega (arith, a, b, c)
+
+-- the nodes of a page and of what comes after it
+pub nodes-of : (xs : List Node) (g : ℕ) (rest : List ℕ) → AllHoldable xs → nodes_in (length xs + g) (page_of xs ++ rest) ≡ xs ++ nodes_in g rest
+nodes-of [] g rest h = ap (λ k. nodes_in k rest) (let e : 0 + g ≡ g = omega arith in e)
+nodes-of (x ∷ xs) g rest h =
+    let b = node-back x (page_of xs ++ rest) h.0 in
+    let more = nodes_from (nodes_in (length xs + g)) in
+    ap (λ k. nodes_in k (page_of (x ∷ xs) ++ rest)) (let e : length (x ∷ xs) + g ≡ suc (length xs + g) = omega arith in e)
+    ∙ ap (λ l. more (opened l)) (append_assoc (record_of x) (page_of xs) rest) ∙ ap more b.1.1.0 ∙ ap₂ ◌∷◌ b.1.1.1 (nodes-of xs g rest h.1)
+
+none-in : (f : ℕ) → nodes_in f [] ≡ []
+none-in zero = refl
+none-in (suc f) = refl
+
+list_back : (f : ℕ) (list : List Node) → AllHoldable list → length (page_of list) ≤ f → nodes_in f (page_of list) ≡ list
+list_back f list h l =
+    let g = f - length list in
+    ap₂ nodes_in (let e : f ≡ length list + g = omega (arith, l, count-page list) in e) (sym (append-nil (page_of list))) ∙ nodes-of list g [] h ∙ ap (λ xs. list ++ xs) (none-in g) ∙ append-nil list
 
 keeps-holdable : (p : ℕ) (Cs : List (List ℤ)) → AllFormsFit p 0 Cs → AllHoldable (map Keep Cs)
 keeps-holdable p [] f = tt

@@ -1,38 +1,25 @@
 -- Records that stand one after the other, read back.
-use Rattle.std.proofs.Common.{◌≡◌, ℕ, zero, suc, ◌+◌, ◌<◌, ◌≤◌, ◌≢◌, List, [], ◌∷◌, ◌++◌, length, get_or, take, drop, set, Ok, Err, sym, refl, ap, ◌∙◌, subst, ap₂, ⊎_elim, append_assoc, arith, length-append, length-set, take-append-drop, Bor}
+use Rattle.std.proofs.Common.{◌≡◌, ℕ, zero, suc, ◌+◌, ◌<◌, ◌≤◌, ◌≢◌, List, [], ◌∷◌, ◌++◌, length, get_or, take, drop, set, Ok, Err, sym, refl, ap, ◌∙◌, subst, ap₂, ⊎_elim, append_assoc, append-nil, arith, length-append, length-set, take-append-drop, Bor}
 use Rattle.std.proofs.lemmas.Grind.{flat_map-append}
 use Rattle.std.proofs.lemmas.List.{drop_at, drop_more, get_or-drop, get_or-set_other, get_or-set_same, length-take-le, take-append-le, take_at, take_more}
 use Rattle.std.proofs.lemmas.Bool.{cases_lt}
 use Rattle.tree.specs.declared.node.Node.{Node}
 use Rattle.tree.specs.declared.node.Node.TheVariants.{Head, Keep, Split, New, Leaf, None}
 use Rattle.tree.specs.Kinds.{kind_of}
-use Rattle.page.specs.Records.{node_of, nodes_from, nodes_in, one, opened, page_of, pasted, record_of}
+use Rattle.page.specs.Records.{node_of, nodes_in, one, opened, page_of, pasted, record_of}
 use Rattle.page.specs.declared.record.Flaw.{Flaw}
 use Rattle.page.specs.declared.record.Record.{Record}
 use Rattle.page.specs.Ties.{Reads, body_in, kind_in}
 use Rattle.page_store.specs.Costs.{byte_cost}
 use Rattle.page_store.specs.Listed.{Indexed, length_by}
-use Rattle.page.proofs.Holding.{AllHoldable, Holdable}
+use Rattle.page.proofs.Holding.{AllHoldable, Holdable, all-holdable-++}
 use Rattle.page.proofs.Listing.{length-record, page-more}
-use Rattle.page.proofs.Regained.{node-back, some_bytes}
+use Rattle.page.proofs.Regained.{node-back, nodes-of, some_bytes}
 use Rattle.page.proofs.Pasting.{take-pasted}
 
 -- a page is read back
 pub page-back : (xs : List Node) (rest : List ℕ) → AllHoldable xs → nodes_in (length xs) (page_of xs ++ rest) ≡ xs
-page-back [] rest h = refl
-page-back (x ∷ xs) rest h =
-    let p = node-back x (page_of xs ++ rest) h.0 in
-    ap (nodes_from (nodes_in (length xs))) (ap opened (append_assoc (record_of x) (page_of xs) rest) ∙ p.1.1.0) ∙ ap₂ ◌∷◌ p.1.1.1 (page-back xs rest h.1)
-
--- ---- pages by their nodes
-
-pub holdable-append : (xs : List Node) (x : Node) → AllHoldable xs → Holdable x → AllHoldable (xs ++ (x ∷ []))
-holdable-append [] x h p = (p, tt)
-holdable-append (y ∷ xs) x h p = (h.0, holdable-append xs x h.1 p)
-
-pub count-page : (xs : List Node) → length xs ≤ length (page_of xs)
-count-page [] = omega arith
-count-page (x ∷ xs) = let a = length-append (record_of x) (page_of xs) in let b = some_bytes x in let c = count-page xs in omega (arith, a, b, c)
+page-back xs rest h = ap (λ k. nodes_in k (page_of xs ++ rest)) (let e : length xs ≡ length xs + 0 = omega arith in e) ∙ nodes-of xs 0 rest h ∙ append-nil xs
 
 -- ---- the reader, at the record of a node
 
@@ -103,7 +90,7 @@ put-nodes page after n count xs x all h len room whole wrote =
     let m = n + byte_cost (kind_of x) in
     let l : count + 1 ≡ length ys = let a = length-append xs (x ∷ []) in omega (arith, a, len) in
     let w : after ≡ page_of ys ++ drop m after = sym (take-append-drop m after) ∙ ap (λ l. l ++ drop m after) (put_whole page after n xs x h room whole wrote) in
-    ap₂ nodes_in l w ∙ page-back ys (drop m after) (holdable-append xs x all h)
+    ap₂ nodes_in l w ∙ page-back ys (drop m after) (all-holdable-++ xs (x ∷ []) all (h, tt))
 
 pub put-index : (page index : List ℕ) (n count : ℕ) (xs : List Node) (x : Node) → length xs ≡ count → n ≤ length page → take n page ≡ page_of xs → Indexed index xs → Indexed (set index count n) (xs ++ (x ∷ []))
 put-index page index n count xs x len room whole old k h i =

@@ -10,9 +10,10 @@ use Rattle.page_store.specs.Costs.{byte_cost}
 use Rattle.page_store.specs.Listed.{Indexed}
 use Rattle.page_store.specs.PageStores.{bytes_after_put, bytes_of, meaning_of}
 use Rattle.page_store.specs.declared.page_store.PageStore.{PageStore}
-use Rattle.page.proofs.Holding.{all-to, holdable-from}
+use Rattle.page.proofs.Holding.{all-holdable-++, all-to, holdable-from}
+use Rattle.page.proofs.Regained.{count-page}
 use Rattle.page_store.proofs.Kept.{all-held, length-listed, listed, used-is}
-use Rattle.page_store.proofs.Standing.{cost-some, count-page, holdable-append, put-index, put-nodes, put_whole}
+use Rattle.page_store.proofs.Standing.{cost-some, put-index, put-nodes, put_whole}
 use Rattle.page_store.proofs.page_store.acts.PageStoreStore.put.Goals as goal
 
 -- the page by what a put answers
@@ -61,7 +62,7 @@ invariant_of-self c =
       within = omega arith;
       whole = ap (λ n. take (s.used + n) after) u ∙ w ∙ ap page_of (sym e);
       all = ap length e ∙ len;
-      numbers = ap all_holdable e ∙ all-to (xs ++ (x ∷ [])) (holdable-append xs x all hold);
+      numbers = ap all_holdable e ∙ all-to (xs ++ (x ∷ [])) (all-holdable-++ xs (x ∷ []) all (hold, tt));
       indexed = subst (Indexed (vec_items c.note.new.index)) (sym e) i;
     }
 
