@@ -61,5 +61,5 @@ pub latest-turned-back : (L : Loops) → Shaped L → LatestTurnedBack L
 latest-turned-back L s fuel room t n e z m a values is =
     let k = corresponds L z s in
     let v = subst (LatestAnswer L z) is (latest-posting L s fuel room t n e z m) in
-    let b = back-posts L s z v.unknowns m.counted a (k.solves v.unknowns v.counters v.stand v.posting) in
+    let b = back-posts L s z v.unknowns m.counted a (k.solves v.unknowns v.counters v.stand v.latest.0) in
     (v, ap (λ (xs : List ℤ). turned_back L (map pos z) (six_numbers xs)) v.are ∙ b.1.1.1 ∙ ap (λ (d : List ℕ). Ok (six_numbers (map pos d))) (k.one_posting v.unknowns b.0 v.counters b.1.0 v.stand))

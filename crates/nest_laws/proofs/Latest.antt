@@ -4,10 +4,10 @@ use Rattle.source.specs.Systems.{Point, Precedes}
 use Rattle.tree.specs.Answers.{answer_at}
 use Rattle.nest.specs.Loops.{AllLong, Loops, Shaped}
 use Rattle.nest.specs.Tables.{cell_rows, loop_rows, system_of}
-use Rattle.solver_laws.specs.Meaning.{RightAnswer}
+use Rattle.solver_laws.specs.Meaning.{Least, RightAnswer}
 use Rattle.solver_laws.proofs.Least.{least-point}
-use Rattle.nest_laws.specs.Laws.{Corresponds, LatestPosting, PostingsCorrespond}
-use Rattle.nest_laws.specs.Postings.{LatestAnswer, Later, Posting, StandsFor}
+use Rattle.nest_laws.specs.Laws.{Corresponds, LatestPosting, LeastIsLatest, PostingsCorrespond}
+use Rattle.nest_laws.specs.Postings.{LatestAnswer, LatestOf, Later, Posting, StandsFor}
 use Rattle.nest_laws.proofs.Pairs.{Pairs, pairs-from, pairs-later, pairs-one, pairs-there, pairs-to, pairs-turn, pairs-within}
 use Rattle.nest_laws.proofs.Rows.{cells-hold, cells-met, hold-both, hold-parts, loops-hold, loops-within}
 
@@ -68,27 +68,38 @@ corresponds L z s =
           pairs-later L.bounds z d c y x (pairs-turn L.bounds z y d (pairs_of L z y d s g)) (pairs-turn L.bounds z x c (pairs_of L z x c s f)) h;
     }
 
-pub postings-correspond : (L : Loops) → Shaped L → PostingsCorrespond L
-postings-correspond L s z e = corresponds L z s
-
 -- ---- the least point is the latest posting
+module _ (L : Loops) (z : List ℕ) (k : Corresponds L z) where
+  to-latest : (x c : List ℕ) → StandsFor L z x c → Least (system_of L) z x → LatestOf L z c
+  to-latest x c f (p, least) = (k.posts x c f p, λ d q. let y = k.unknowns_of d q in from d y.0 y.1 (least y.0 (k.solves y.0 d y.1 q)))
+    where
+      from : (d y : List ℕ) → StandsFor L z y d → (x ≡ y) ⊎ Precedes x y → (c ≡ d) ⊎ Later c d
+      from d y g (inl h) = inl (k.one_posting x c d f (subst (λ (w : List ℕ). StandsFor L z w d) (sym h) g))
+      from d y g (inr h) = inr (k.later x y c d f g h)
+
+  to-least : (x c : List ℕ) → StandsFor L z x c → LatestOf L z c → Least (system_of L) z x
+  to-least x c f (q, latest) = (k.solves x c f q, λ y p. let d = k.counters_of y p in from y d.0 d.1 (latest d.0 (k.posts y d.0 d.1 p)))
+    where
+      from : (y d : List ℕ) → StandsFor L z y d → (c ≡ d) ⊎ Later c d → (x ≡ y) ⊎ Precedes x y
+      from y d g (inl h) = inl (k.one_point x y c f (subst (StandsFor L z y) (sym h) g))
+      from y d g (inr h) = inr (k.precedes x y c d f g h)
+
+  least-is-latest : LeastIsLatest L z
+  least-is-latest = record {
+    latest = to-latest;
+    least = to-least;
+    no_posting = λ none c q. let y = k.unknowns_of c q in none y.0 (k.solves y.0 c y.1 q);
+    no_point = λ none x p. let d = k.counters_of x p in none d.0 (k.posts x d.0 d.1 p);
+  }
+
+pub postings-correspond : (L : Loops) → Shaped L → PostingsCorrespond L
+postings-correspond L s z e = let k = corresponds L z s in (k, least-is-latest L z k)
+
 latest-of : (L : Loops) (z : List ℕ) → Corresponds L z → (o : Option (List ℤ)) → RightAnswer (system_of L) z o → LatestAnswer L z o
 latest-of L z k (Some values) (x, e, (p, least)) =
-    let c = (k.counters_of x p).0 in
-    let f = (k.counters_of x p).1 in
-    record {
-      unknowns = x;
-      counters = c;
-      are = e;
-      stand = f;
-      posting = k.posts x c f p;
-      latest = λ d q. from c f d (k.unknowns_of d q).0 (k.unknowns_of d q).1 (least (k.unknowns_of d q).0 (k.solves (k.unknowns_of d q).0 d (k.unknowns_of d q).1 q));
-    }
-  where
-    from : (c : List ℕ) → StandsFor L z x c → (d y : List ℕ) → StandsFor L z y d → (x ≡ y) ⊎ Precedes x y → (c ≡ d) ⊎ Later c d
-    from c f d y g (inl h) = inl (k.one_posting x c d f (subst (λ (w : List ℕ). StandsFor L z w d) (sym h) g))
-    from c f d y g (inr h) = inr (k.later x y c d f g h)
-latest-of L z k None none = λ c q. none (k.unknowns_of c q).0 (k.solves (k.unknowns_of c q).0 c (k.unknowns_of c q).1 q)
+    let c = k.counters_of x p in
+    record { unknowns = x; counters = c.0; are = e; stand = c.1; latest = to-latest L z k x c.0 c.1 (p, least) }
+latest-of L z k None none = (least-is-latest L z k).no_posting none
 
 pub latest-posting : (L : Loops) → Shaped L → LatestPosting L
 latest-posting L s fuel room t n e z m = latest-of L z (corresponds L z s) (answer_at t z) (least-point (system_of L) fuel room t n e z m)

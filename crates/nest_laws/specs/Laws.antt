@@ -5,11 +5,12 @@ use Rattle.tree.specs.Answers.{answer_at}
 use Rattle.tree.specs.Finds.{six_numbers}
 use Rattle.tree.specs.Trees.{Tree}
 use Rattle.solver.specs.declared.count.Count.{Count}
+use Rattle.solver_laws.specs.Meaning.{Least}
 use Rattle.solver.specs.Solves.{solved, system_fits}
 use Rattle.nest.specs.Backs.{turned_back}
 use Rattle.nest.specs.Loops.{Loops}
 use Rattle.nest.specs.Tables.{system_of}
-use Rattle.nest_laws.specs.Postings.{Latest, LatestAnswer, Later, Posting, StandsFor}
+use Rattle.nest_laws.specs.Postings.{Latest, LatestAnswer, LatestOf, Later, Posting, StandsFor}
 
 -- At the parameters z the points of the system and the postings of the loops correspond one to one, and a point precedes
 -- another exactly if its posting comes later.
@@ -23,8 +24,15 @@ pub record Corresponds (L : Loops) (z : List ℕ) : Type 0 where
   pub later : (x y c d : List ℕ) → StandsFor L z x c → StandsFor L z y d → Precedes x y → Later c d
   pub precedes : (x y c d : List ℕ) → StandsFor L z x c → StandsFor L z y d → Later c d → Precedes x y
 
+-- So the least point is the latest posting, and there is no point exactly if the cell is never posted to.
+pub record LeastIsLatest (L : Loops) (z : List ℕ) : Type 0 where
+  pub latest : (x c : List ℕ) → StandsFor L z x c → Least (system_of L) z x → LatestOf L z c
+  pub least : (x c : List ℕ) → StandsFor L z x c → LatestOf L z c → Least (system_of L) z x
+  pub no_posting : ((x : List ℕ) → Point (system_of L) z x → ⊥) → (c : List ℕ) → Posting L z c → ⊥
+  pub no_point : ((c : List ℕ) → Posting L z c → ⊥) → (x : List ℕ) → Point (system_of L) z x → ⊥
+
 abbrev pub PostingsCorrespond : Loops → Type 0
-PostingsCorrespond L = (z : List ℕ) → length z ≡ L.p → Corresponds L z
+PostingsCorrespond L = (z : List ℕ) → length z ≡ L.p → Corresponds L z × LeastIsLatest L z
 
 -- Whatever tree a solve of the nest answers gives the latest posting at every parameter point of its context; or it says none, and the
 -- cell is never posted to there.

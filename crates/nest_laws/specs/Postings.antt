@@ -31,14 +31,17 @@ pub record StandsFor (L : Loops) (z x counters : List ℕ) : Type 0 where
 abbrev pub Later : List ℕ → List ℕ → Type 0
 Later c d = Precedes d c
 
+-- c is the latest posting at z: it comes later than every other
+abbrev pub LatestOf : Loops → List ℕ → List ℕ → Type 0
+LatestOf L z c = Posting L z c × ((d : List ℕ) → Posting L z d → (c ≡ d) ⊎ Later c d)
+
 -- the values are unknowns, and the counters that they stand for are the latest posting at z
 pub record Latest (L : Loops) (z : List ℕ) (values : List ℤ) : Type 0 where
   pub unknowns : List ℕ
   pub counters : List ℕ
   pub are : values ≡ map pos unknowns
   pub stand : StandsFor L z unknowns counters
-  pub posting : Posting L z counters
-  pub latest : (d : List ℕ) → Posting L z d → (counters ≡ d) ⊎ Later counters d
+  pub latest : LatestOf L z counters
 
 -- what is said of the postings at z: the unknowns of the latest one, or that there is none
 abbrev pub LatestAnswer : Loops → List ℕ → Option (List ℤ) → Type 0

@@ -6,7 +6,8 @@ ghost use Rattle.nest_laws.specs.Laws.{BackPosts, LatestPosting, LatestTurnedBac
 
 use nest::nest::Nest;
 
-/// The points of a nest's system and the postings of its loops correspond one to one, the earlier point to the later posting.
+/// The points of a nest's system and the postings of its loops correspond one to one, the earlier point to the later posting; so the least
+/// point is the latest posting.
 pub fn postings_correspond(nest: &Nest)
     ensures law { PostingsCorrespond (nest_of nest.now) }
 {}

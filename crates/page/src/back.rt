@@ -35,7 +35,7 @@ pub fn record_at<'a>(page: &'a [u8], offset: usize) -> Result<Placed<'a>, Refusa
 }
 
 // A function, no `From`: it bears the name of its definition, which contracts and edits cite.
-/// Inner: the node of a record.
+/// The node of a record.
 pub fn node_of(of: Record) -> Node
     ensures value { result ≡ node_of (kind_in of.entry) (body_in of.entry) }
 {

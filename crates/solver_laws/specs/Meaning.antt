@@ -41,7 +41,11 @@ abbrev pub HasSetting : List (List ℤ) → Bool → Type 0
 HasSetting forms true = (ρ : List ℤ) × Setting ρ × Meets forms ρ
 HasSetting forms false = (ρ : List ℤ) → Setting ρ → Meets forms ρ → ⊥
 
+-- x is the least point at the parameters z: it precedes every other
+abbrev pub Least : System → List ℕ → List ℕ → Type 0
+Least S z x = Point S z x × ((y : List ℕ) → Point S z y → (x ≡ y) ⊎ Precedes x y)
+
 -- ---- what is answered at the parameters z: the least point, or that there is none
 abbrev pub RightAnswer : System → List ℕ → Option (List ℤ) → Type 0
-RightAnswer S z (Some values) = (x : List ℕ) × (values ≡ map pos x) × (Point S z x × ((y : List ℕ) → Point S z y → (x ≡ y) ⊎ Precedes x y))
+RightAnswer S z (Some values) = (x : List ℕ) × (values ≡ map pos x) × Least S z x
 RightAnswer S z None = (x : List ℕ) → Point S z x → ⊥
