@@ -8,7 +8,7 @@ use crate::row::{fits, pivoted};
 use crate::table::Table;
 
 /// Whether all rows in use are in range.
-pub fn all_fit(t: &Table) -> bool
+fn all_fit(t: &Table) -> bool
     requires { t.now.count ≤ 64 }
     ensures { result ≡ all_fit (in_use t.now) }
 {
