@@ -22,12 +22,13 @@ pub fn nest_fits(nest: &Nest)
     ensures law { NestFits (nest_of nest.now) }
 {}
 
-/// Given a point of a nest's system, back answers the posting that it stands for.
+/// Given a point of a nest's system at parameters up to 1,000,000, back answers the posting that it stands for.
 pub fn back_posts(nest: &Nest)
     ensures law { BackPosts (nest_of nest.now) }
 {}
 
-/// Whatever tree a solve of a nest answers, back turns the values that it gives into the counters of the latest posting.
+/// Whatever tree a solve of a nest answers, at parameters of the context up to 1,000,000 back turns the values that it gives into the
+/// counters of the latest posting.
 pub fn latest_turned_back(nest: &Nest)
     ensures law { LatestTurnedBack (nest_of nest.now) }
 {}
