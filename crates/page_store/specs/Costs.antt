@@ -1,7 +1,14 @@
--- What a node costs in a page: the bytes of its record.
-use Rattle.std.specs.Prelude.{ℕ}
-use Rattle.tree.specs.declared.kind.Kind.{Kind}
-use Rattle.page.specs.Records.{record_length}
+-- What a node of each kind costs in a page: the bytes of its record.
+use Rattle.store.specs.Stores.{Costs}
+use Rattle.page.specs.Records.{head, keep, split, new, leaf, none, record_length}
 
-abbrev pub byte_cost : Kind → ℕ
-byte_cost kind = record_length kind
+abbrev pub byte_costs : Costs
+byte_costs =
+    record {
+      of_head = record_length head;
+      of_keep = record_length keep;
+      of_split = record_length split;
+      of_new = record_length new;
+      of_leaf = record_length leaf;
+      of_none = record_length none;
+    }

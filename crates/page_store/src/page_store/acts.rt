@@ -18,7 +18,7 @@ use tree::node::Node;
 impl PageStore {
     /// A store over this page, closed and empty.
     pub fn new(page: Vec<u8>, index: Vec<usize>) -> PageStore
-        ensures answer { meaning_of result ≡ fresh (vec_len page) byte_cost }
+        ensures answer { meaning_of result ≡ fresh (vec_len page) byte_costs }
         ensures bytes { bytes_of result ≡ page.items }
     {
         PageStore {
@@ -54,7 +54,7 @@ impl PageStore {
     /// The whole page, taken out again.
     pub fn into_page(self) -> Vec<u8>
         ensures answer { result.items ≡ bytes_of self }
-        ensures listed { take (used byte_cost (meaning_of self).nodes) result.items ≡ page_of (meaning_of self).nodes }
+        ensures listed { take (used byte_costs (meaning_of self).nodes) result.items ≡ page_of (meaning_of self).nodes }
     {
         let PageStore { page, .. } = self;
         page
@@ -82,7 +82,7 @@ fn write(page: &mut Vec<u8>, at: usize, node: &Node)
 
 // The trait speaks of the meaning. What stands in the page after the listed part is said here besides.
 impl Store for PageStore {
-    type Draft = PageDraft;
+    type Mark = Pages;
 
     ghost meaning = { meaning_of };
 

@@ -1,7 +1,7 @@
 //! What a node store does.
 ghost use Rattle.std.specs.Prelude.{◌≡◌, vec_len};
-ghost use Rattle.store.specs.NodeStores.{meaning_of, unit_cost};
-ghost use Rattle.store.specs.Stores.{fresh};
+ghost use Rattle.store.specs.NodeStores.{meaning_of, unit_costs};
+ghost use Rattle.store.specs.Stores.{after_finish, after_scrap, close_answer, fresh};
 
 use super::{NodeDraft, NodeStore, Nodes};
 use crate::gate::Gate;
@@ -13,7 +13,7 @@ use tree::node::Node;
 impl NodeStore {
     /// A store over this table, closed and empty.
     pub fn new(table: Vec<Node>) -> NodeStore
-        ensures answer { meaning_of result ≡ fresh (vec_len table) unit_cost }
+        ensures answer { meaning_of result ≡ fresh (vec_len table) unit_costs }
     {
         NodeStore {
             table,
@@ -23,8 +23,9 @@ impl NodeStore {
     }
 }
 
+// Finish and scrap repeat the trait's clauses: rattle cannot give them to a method that takes a draft by value.
 impl Store for NodeStore {
-    type Draft = NodeDraft;
+    type Mark = Nodes;
 
     ghost meaning = { meaning_of };
 
@@ -45,11 +46,17 @@ impl Store for NodeStore {
         Ok(())
     }
 
-    fn finish(&mut self, draft: NodeDraft) -> Result<(), Refusal> {
+    fn finish(&mut self, draft: NodeDraft) -> Result<(), Refusal>
+        ensures answer { result ≡ close_answer (meaning_of self.old) }
+        ensures left { meaning_of self.new ≡ after_finish (meaning_of self.old) }
+    {
         self.gate.close(draft)
     }
 
-    fn scrap(&mut self, draft: NodeDraft) -> Result<(), Refusal> {
+    fn scrap(&mut self, draft: NodeDraft) -> Result<(), Refusal>
+        ensures answer { result ≡ close_answer (meaning_of self.old) }
+        ensures left { meaning_of self.new ≡ after_scrap (meaning_of self.old) }
+    {
         self.finish(draft)?;
         self.count = 0;
         Ok(())

@@ -6,4 +6,4 @@ use Rattle.store.proofs.install.fits.Given as goal
 abbrev pub invariant-loop-node : goal.invariant-loop-node
 invariant-loop-node g l =
     let m = g.T.Store.meaning l.store in
-    (l.node-index ≤ length l.nodes) × (l.left + used m.cost (take l.node-index l.nodes) ≡ m.capacity)
+    (l.node-index ≤ length l.nodes) × (l.left + used m.costs (take l.node-index l.nodes) ≡ m.capacity)
