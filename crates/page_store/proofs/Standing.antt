@@ -6,11 +6,12 @@ use Rattle.std.proofs.lemmas.Bool.{cases_lt}
 use Rattle.tree.specs.declared.node.Node.{Node}
 use Rattle.tree.specs.declared.node.Node.TheVariants.{Head, Keep, Split, New, Leaf, None}
 use Rattle.tree.specs.Kinds.{kind_of}
-use Rattle.page.specs.Records.{node_of, nodes_in, one, opened, page_of, pasted, record_of}
+use Rattle.store.specs.Stores.{cost_of as cost_by}
+use Rattle.page.specs.Records.{cost_of, node_of, nodes_in, one, opened, page_of, pasted, record_of}
 use Rattle.page.specs.declared.record.Flaw.{Flaw}
 use Rattle.page.specs.declared.record.Record.{Record}
 use Rattle.page.specs.Ties.{Reads, body_in, kind_in}
-use Rattle.page_store.specs.Costs.{byte_cost}
+use Rattle.page_store.specs.Costs.{byte_costs}
 use Rattle.page_store.specs.Listed.{Indexed, length_by}
 use Rattle.page.proofs.Holding.{AllHoldable, Holdable, all-holdable-++}
 use Rattle.page.proofs.Listing.{length-record, page-more}
@@ -76,18 +77,18 @@ holdable-at (x ∷ xs) (suc j) d h all = holdable-at xs j d (omega arith) all.1
 
 -- ---- one record more
 
-pub put_whole : (page after : List ℕ) (n : ℕ) (xs : List Node) (x : Node) → Holdable x → n + byte_cost (kind_of x) ≤ length page → take n page ≡ page_of xs → after ≡ pasted n (record_of x) page →
-    take (n + byte_cost (kind_of x)) after ≡ page_of (xs ++ (x ∷ []))
+pub put_whole : (page after : List ℕ) (n : ℕ) (xs : List Node) (x : Node) → Holdable x → n + cost_of x ≤ length page → take n page ≡ page_of xs → after ≡ pasted n (record_of x) page →
+    take (n + cost_of x) after ≡ page_of (xs ++ (x ∷ []))
 put_whole page after n xs x h room whole wrote =
     let l = length-record x h in
     ap₂ (λ k p. take (n + k) p) (sym l) wrote ∙ take-pasted n (record_of x) page (omega arith) ∙ ap (λ l. l ++ record_of x) whole
     ∙ sym (page-more xs x)
 
-pub put-nodes : (page after : List ℕ) (n count : ℕ) (xs : List Node) (x : Node) → AllHoldable xs → Holdable x → length xs ≡ count → n + byte_cost (kind_of x) ≤ length page → take n page ≡ page_of xs →
+pub put-nodes : (page after : List ℕ) (n count : ℕ) (xs : List Node) (x : Node) → AllHoldable xs → Holdable x → length xs ≡ count → n + cost_of x ≤ length page → take n page ≡ page_of xs →
     after ≡ pasted n (record_of x) page → nodes_in (count + 1) after ≡ xs ++ (x ∷ [])
 put-nodes page after n count xs x all h len room whole wrote =
     let ys = xs ++ (x ∷ []) in
-    let m = n + byte_cost (kind_of x) in
+    let m = n + cost_of x in
     let l : count + 1 ≡ length ys = let a = length-append xs (x ∷ []) in omega (arith, a, len) in
     let w : after ≡ page_of ys ++ drop m after = sym (take-append-drop m after) ∙ ap (λ l. l ++ drop m after) (put_whole page after n xs x h room whole wrote) in
     ap₂ nodes_in l w ∙ page-back ys (drop m after) (all-holdable-++ xs (x ∷ []) all (h, tt))
@@ -106,7 +107,15 @@ put-index page index n count xs x len room whole old k h i =
     ∙ ap (λ l. length (page_of l)) (sym (take_at xs (x ∷ []) count len)) ∙ ap (λ j. length (page_of (take j (xs ++ (x ∷ []))))) (sym e))
     (cases_lt k count)
 
-pub cost-some : (x : Node) → 1 ≤ byte_cost (kind_of x)
+pub bytes-cost : (x : Node) → cost_by byte_costs (kind_of x) ≡ cost_of x
+bytes-cost (Head n p) = refl
+bytes-cost (Keep C) = refl
+bytes-cost (Split C) = refl
+bytes-cost (New d T) = refl
+bytes-cost (Leaf Cs) = refl
+bytes-cost None = refl
+
+pub cost-some : (x : Node) → 1 ≤ cost_of x
 cost-some (Head n p) = omega arith
 cost-some (Keep C) = omega arith
 cost-some (Split C) = omega arith

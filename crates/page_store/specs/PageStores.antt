@@ -3,12 +3,12 @@ use Rattle.std.specs.Prelude.{ℕ, cond, List, is_ok, length, take, vec_items, v
 use Rattle.tree.specs.declared.node.Node.{Node}
 use Rattle.store.specs.Stores.{Meaning, put_answer}
 use Rattle.page.specs.Records.{nodes_in, page_of, pasted, record_of}
-use Rattle.page_store.specs.Costs.{byte_cost}
+use Rattle.page_store.specs.Costs.{byte_costs}
 use Rattle.page_store.specs.declared.page_store.PageStore.{PageStore}
 
 abbrev pub meaning_of : PageStore → Meaning
 meaning_of s =
-    record { nodes = nodes_in s.count (vec_items s.page); is_open = s.gate.is_open; capacity = vec_len s.page; cost = byte_cost }
+    record { nodes = nodes_in s.count (vec_items s.page); is_open = s.gate.is_open; capacity = vec_len s.page; costs = byte_costs }
 
 -- where the record of the listed node at a place begins
 abbrev pub offset_of : PageStore → ℕ → ℕ

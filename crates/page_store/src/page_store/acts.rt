@@ -1,10 +1,9 @@
 //! What a page store does.
 ghost use Rattle.std.specs.Prelude.{◌≡◌, ◌+◌, ◌<◌, ◌≤◌, true, take, vec_len, slice_set};
 ghost use Rattle.store.specs.Stores.{after_finish, after_put, after_scrap, begun, close_answer, fresh, put_answer, used};
-ghost use Rattle.page.specs.Records.{holdable, page_of, pasted, record_of};
-ghost use Rattle.page_store.specs.Costs.{byte_cost};
+ghost use Rattle.page.specs.Records.{cost_of, holdable, page_of, pasted, record_of};
+ghost use Rattle.page_store.specs.Costs.{byte_costs};
 ghost use Rattle.page_store.specs.PageStores.{bytes_after_put, bytes_of, meaning_of, offset_of};
-ghost use Rattle.tree.specs.Kinds.{kind_of};
 
 use super::{PageDraft, PageStore, Pages};
 use crate::read::{length_of, node_from};
@@ -72,7 +71,7 @@ fn note(index: &mut Vec<usize>, place: usize, offset: usize)
 
 /// Writes the record of a node into the page.
 fn write(page: &mut Vec<u8>, at: usize, node: &Node)
-    requires { at + byte_cost (kind_of node.now) ≤ vec_len page.old }
+    requires { at + cost_of node.now ≤ vec_len page.old }
     ensures left { page.new.items ≡ pasted at (record_of node.now) page.old.items }
     ensures size { vec_len page.new ≡ vec_len page.old }
     ensures numbers { holdable node.now ≡ true }

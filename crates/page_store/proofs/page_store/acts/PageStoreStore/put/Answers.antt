@@ -2,18 +2,16 @@ use Rattle.std.proofs.Common.{◌≡◌, ◌+◌, ◌≤◌, true, cond, [], ◌
 use Rattle.base.specs.declared.refusal.Refusal.{Refusal}
 use Rattle.base.specs.declared.refusal.Refusal.TheVariants.{StoreFull}
 use Rattle.tree.specs.declared.node.Node.{Node}
-use Rattle.tree.specs.Kinds.{kind_of}
 use Rattle.store.specs.Stores.{put_answer}
-use Rattle.page.specs.Records.{all_holdable, nodes_in, page_of, pasted, record_of}
+use Rattle.page.specs.Records.{all_holdable, cost_of, nodes_in, page_of, pasted, record_length, record_of}
 use Rattle.store.proofs.Rooms.{passed-open, put-fits, put_full, same-meaning}
-use Rattle.page_store.specs.Costs.{byte_cost}
 use Rattle.page_store.specs.Listed.{Indexed}
 use Rattle.page_store.specs.PageStores.{bytes_after_put, bytes_of, meaning_of}
 use Rattle.page_store.specs.declared.page_store.PageStore.{PageStore}
 use Rattle.page.proofs.Holding.{all-holdable-++, all-to, holdable-from}
 use Rattle.page.proofs.Regained.{count-page}
 use Rattle.page_store.proofs.Kept.{all-held, length-listed, listed, used-is}
-use Rattle.page_store.proofs.Standing.{cost-some, put-index, put-nodes, put_whole}
+use Rattle.page_store.proofs.Standing.{bytes-cost, cost-some, put-index, put-nodes, put_whole}
 use Rattle.page_store.proofs.page_store.acts.PageStoreStore.put.Goals as goal
 
 -- the page by what a put answers
@@ -25,8 +23,9 @@ returns-then-free-units c =
     let s = c.args.self.now in
     let is_open : s.gate.is_open ≡ true = passed-open _ (sym c.in_ok-pass.ensures.answer) in
     let xs = listed s in
-    let u : c.record_length-units.result ≡ byte_cost (kind_of c.args.node) = c.record_length-units.ensures.value ∙ ap byte_cost c.kind.ensures.answer in
+    let u : c.record_length-units.result ≡ cost_of c.args.node = c.record_length-units.ensures.value ∙ ap record_length c.kind.ensures.answer in
     let l = used-is s in
+    let cost = bytes-cost c.args.node in
     let p = put_full (meaning_of s) c.args.node is_open (omega arith) in
     record { answer = sym p.0; left = sym p.1; bytes = sym (wrote s c.args.node (Err StoreFull) p.0) }
 
@@ -34,7 +33,7 @@ pub overflow_add-self : goal.overflow_add-self
 overflow_add-self c =
     let s = c.args.self.now in
     let xs = listed s in
-    let u : c.record_length-units.result ≡ byte_cost (kind_of c.args.node) = c.record_length-units.ensures.value ∙ ap byte_cost c.kind.ensures.answer in
+    let u : c.record_length-units.result ≡ cost_of c.args.node = c.record_length-units.ensures.value ∙ ap record_length c.kind.ensures.answer in
     let some = cost-some c.args.node in
     let n = length-listed s in
     let m : length xs ≤ length (page_of xs) = count-page xs in
@@ -48,8 +47,8 @@ invariant_of-self c =
     let page = vec_items s.page in
     let after = vec_items c.write.new.page in
     let xs = listed s in
-    let u : c.record_length-units.result ≡ byte_cost (kind_of x) = c.record_length-units.ensures.value ∙ ap byte_cost c.kind.ensures.answer in
-    let room : s.used + byte_cost (kind_of x) ≤ length page = omega arith in
+    let u : c.record_length-units.result ≡ cost_of x = c.record_length-units.ensures.value ∙ ap record_length c.kind.ensures.answer in
+    let room : s.used + cost_of x ≤ length page = omega arith in
     let hold = holdable-from x c.write.ensures.numbers in
     let all = all-held s in
     let w = put_whole page after s.used xs x hold room s.whole c.write.ensures.left in
@@ -73,10 +72,11 @@ returns c =
     let x = c.args.node in
     let page = vec_items s.page in
     let xs = listed s in
-    let u : c.record_length-units.result ≡ byte_cost (kind_of x) = c.record_length-units.ensures.value ∙ ap byte_cost c.kind.ensures.answer in
-    let room : s.used + byte_cost (kind_of x) ≤ length page = omega arith in
+    let u : c.record_length-units.result ≡ cost_of x = c.record_length-units.ensures.value ∙ ap record_length c.kind.ensures.answer in
+    let room : s.used + cost_of x ≤ length page = omega arith in
     let all = all-held s in
     let l = used-is s in
+    let cost = bytes-cost x in
     let e = put-nodes page (vec_items c.write.new.page) s.used s.count xs x all (holdable-from x c.write.ensures.numbers) s.all room s.whole c.write.ensures.left in
     let p = put-fits (meaning_of s) x is_open (omega arith) in
     record {
