@@ -1,12 +1,26 @@
--- The end of a walk over a list of nodes.
-use Rattle.std.proofs.Common.{◌≡◌, ℕ, ◌+◌, ◌<◌, List, length, get_or, drop, ℤ, Some, None, Option, sym, ◌∙◌, subst}
-use Rattle.std.proofs.lemmas.List.{at_drop_more}
-use Rattle.std.specs.declared.ops.ControlFlow.TheVariants.{Break}
+-- The turn of a walk from the keeps to the nodes below them.
+use Rattle.std.proofs.Common.{◌≡◌, ℕ, ◌+◌, ◌≤◌, List, ◌∷◌, ℤ, Ok, sym, refl, ap, ◌∙◌, arith}
 use Rattle.tree.specs.declared.node.Node.{Node}
-use Rattle.tree.specs.declared.walk.Walk.{Walk}
-use Rattle.tree.specs.Parts.{Six}
-use Rattle.tree.specs.Walks.{Steps, answer_of}
+use Rattle.tree.specs.declared.node.Node.TheVariants.{Head as HeadNode, Keep, Split, New, Leaf, None as Blank}
+use Rattle.tree.specs.declared.state.Walk.{Walk}
+use Rattle.tree.specs.Finds.{kept_answer, walk}
+use Rattle.tree.specs.Walks.{Follows, Keeps, Nodes, Phase, answer_in, answer_of, in_six}
 
-pub ended : (list : List Node) (i : ℕ) (d : Node) (w : Walk) (a : Option (List ℤ)) (end : Option (List ℤ)) → i < length list → Steps w (get_or list i d) (Break end) → answer_of w (drop i list) ≡ a → Six a end
-ended list i d w a (Some six) lt h e = subst (λ o. Six o (Some six)) (sym (at_drop_more (answer_of w) list i d lt ∙ h.1.1 (drop (i + 1) list)) ∙ e) h.1.0
-ended list i d w a None lt h e = subst (λ o. Six o None) (sym (at_drop_more (answer_of w) list i d lt ∙ h (drop (i + 1) list)) ∙ e) tt
+first-below : (n : ℕ) (ρ : List ℤ) (node : Node) (rest : List Node) → ((C : List ℤ) → node ≡ Keep C → ⊥) → kept_answer n ρ (node ∷ rest) ≡ Ok (walk n 0 0 ρ (node ∷ rest))
+first-below n ρ (HeadNode a b) rest h = refl
+first-below n ρ (Keep C) rest h = absurd (h C refl)
+first-below n ρ (Split C) rest h = refl
+first-below n ρ (New d T) rest h = refl
+first-below n ρ (Leaf forms) rest h = refl
+first-below n ρ Blank rest h = refl
+
+pub below-keeps : (w v u : Walk) (node : Node) → ((C : List ℤ) → node ≡ Keep C → ⊥) → w.phase ≡ Keeps → v.phase ≡ Nodes → v.past ≡ 0 → v.n ≡ w.n → v.known ≡ w.known → Follows v node u → Follows w node u
+below-keeps w v u node h keeps below none n known f = (
+  omega (arith, f.0, none),
+  λ rest.
+      let made : w.known.made ≡ 0 = w.unmade keeps in
+      let turn : answer_of w (node ∷ rest) ≡ in_six (Ok (walk w.n 0 0 w.known.setting (node ∷ rest))) = ap (λ s. answer_in s w (node ∷ rest)) keeps ∙ ap in_six (first-below w.n w.known.setting node rest h) in
+      let there : answer_of v (node ∷ rest) ≡ in_six (Ok (walk v.n v.past v.known.made v.known.setting (node ∷ rest))) = ap (λ s. answer_in s v (node ∷ rest)) below in
+      let same : in_six (Ok (walk w.n 0 0 w.known.setting (node ∷ rest))) ≡ in_six (Ok (walk v.n v.past v.known.made v.known.setting (node ∷ rest))) = cc in
+      turn ∙ same ∙ sym there ∙ f.1 rest,
+)

@@ -1,17 +1,40 @@
--- What one node of a walk comes to.
-use Rattle.std.specs.Prelude.{◌≡◌, ◌+◌, ◌≤◌, List, ◌∷◌, ℤ, Some, None, Option}
-use Rattle.std.specs.declared.ops.ControlFlow.{ControlFlow}
-use Rattle.std.specs.declared.ops.ControlFlow.TheVariants.{Break, Continue}
+-- What a walk answers from where it has come to.
+use Rattle.std.specs.Prelude.{◌≡◌, ◌+◌, ◌≤◌, Bool, true, false, List, [], ◌∷◌, replicate, ℤ, pos, Some, None, Ok, Err, Option, Result}
+use Rattle.base.specs.declared.refusal.Refusal.{Refusal}
 use Rattle.tree.specs.declared.node.Node.{Node}
-use Rattle.tree.specs.declared.walk.Walk.{Walk}
-use Rattle.tree.specs.Finds.{six_numbers, walk}
+use Rattle.tree.specs.declared.state.Walk.{Walk}
+use Rattle.tree.specs.Finds.{found_in, kept_answer, six_numbers, walk}
+pub use Rattle.tree.specs.declared.state.Phase.{Phase}
+pub use Rattle.tree.specs.declared.state.Phase.TheVariants.{Head, Keeps, Nodes, Over}
 
--- what the walk answers from here on
-abbrev pub answer_of : Walk → List Node → Option (List ℤ)
-answer_of w list = walk w.n w.past w.known.made w.known.setting list
+-- an answer, its point as six numbers
+abbrev pub in_six : Result (Option (List ℤ)) Refusal → Result (Option (List ℤ)) Refusal
+in_six (Ok (Some values)) = Ok (Some (six_numbers values))
+in_six (Ok None) = Ok None
+in_six (Err e) = Err e
 
--- what a node comes to: the walk goes on as v, or it ends
-abbrev pub Steps : Walk → Node → ControlFlow (Option (List ℤ)) Walk → Type 0
-Steps w node (Continue v) = (v.past ≤ w.past + 1) × ((rest : List Node) → answer_of w (node ∷ rest) ≡ answer_of v rest)
-Steps w node (Break (Some six)) = (values : List ℤ) × ((six ≡ six_numbers values) × ((rest : List Node) → answer_of w (node ∷ rest) ≡ Some values))
-Steps w node (Break None) = (rest : List Node) → answer_of w (node ∷ rest) ≡ None
+-- the six numbers of such an answer, zeros where it has no point
+abbrev pub six_of : Result (Option (List ℤ)) Refusal → List ℤ
+six_of (Ok (Some six)) = six
+six_of (Ok None) = replicate 6 (pos 0)
+six_of (Err e) = replicate 6 (pos 0)
+
+-- what the nodes that are still to come answer
+abbrev pub answer_in : Phase → Walk → List Node → Result (Option (List ℤ)) Refusal
+answer_in Head w list = in_six (found_in list w.point.now)
+answer_in Keeps w list = in_six (kept_answer w.n w.known.setting list)
+answer_in Nodes w list = in_six (Ok (walk w.n w.past w.known.made w.known.setting list))
+answer_in (Over answer) w list = answer
+
+abbrev pub answer_of : Walk → List Node → Result (Option (List ℤ)) Refusal
+answer_of w list = answer_in w.phase w list
+
+abbrev pub is_over : Phase → Bool
+is_over Head = false
+is_over Keeps = false
+is_over Nodes = false
+is_over (Over answer) = true
+
+-- after one node more, what is still to come answers the same
+abbrev pub Follows : Walk → Node → Walk → Type 0
+Follows w node v = (v.past ≤ w.past + 1) × ((rest : List Node) → answer_of w (node ∷ rest) ≡ answer_of v rest)

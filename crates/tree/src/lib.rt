@@ -4,4 +4,5 @@
 pub mod kind;
 mod known;
 pub mod node;
+pub mod state;
 pub mod walk;
