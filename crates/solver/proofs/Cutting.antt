@@ -8,7 +8,8 @@ use Rattle.base.specs.declared.refusal.Refusal.TheVariants.{FuelSpent, Cuts, New
 use Rattle.tableau.specs.Cuts.{CutNumbers, cut_row, is_constant}
 use Rattle.tree.specs.Trees.{Tree}
 use Rattle.solver.specs.declared.count.Count.{Count}
-use Rattle.solver.specs.Runs.{Limits, Outcome, Run, next, ◌>>◌, bar, met_at, stepped, tick}
+use Rattle.solver.specs.declared.count.Stopped.{Stopped}
+use Rattle.solver.specs.Runs.{Limits, Outcome, Run, next, ◌>>◌, bar, stepped, tick, stopped_at, stopped}
 use Rattle.solver.specs.Rules.{Work, cut, cut_new, cut_plain, with_row}
 use Rattle.base.specs.declared.refusal.Refusal.TheVariants.{Range}
 use Rattle.base.specs.declared.refusal.Place.TheVariants.{Node}
@@ -25,7 +26,7 @@ use Rattle.solver.specs.Ties.{counted, limits, noted_in, ticked, work_of}
 use Rattle.solver.proofs.Writing.{write_then}
 
 -- what follows a step that may be refused
-abbrev pub once_ticked : {A : Type 0} → Result Count Refusal → (Count → Outcome A) → Outcome A
+abbrev pub once_ticked : {A : Type 0} → Result Count Stopped → (Count → Outcome A) → Outcome A
 once_ticked (Ok c) k = k c
 once_ticked (Err e) k = Err e
 
@@ -33,25 +34,25 @@ pub tick-then : {A : Type 0} (place : Place) (m : Run A) (fuel room : ℕ) (c : 
 unfolding tick ◌>>◌
 tick-then {A} place m fuel room c = go (ltb c.steps fuel)
   where
-    go : (b : Bool) → next {A = Unit {0}} (cond b (Ok (tt {0}, stepped c)) (Err (FuelSpent (met_at place c)))) (λ _. m) (limits fuel room) ≡ once_ticked (cond b (Ok (stepped c)) (Err (FuelSpent (met_at place c)))) (m (limits fuel room))
+    go : (b : Bool) → next {A = Unit {0}} (cond b (Ok (tt {0}, stepped c)) (Err (stopped_at FuelSpent place c))) (λ _. m) (limits fuel room) ≡ once_ticked (cond b (Ok (stepped c)) (Err (stopped_at FuelSpent place c))) (m (limits fuel room))
     go true = refl
     go false = refl
 
-pub bar-is : {A : Type 0} (why : Met → Refusal) (place : Place) (fuel room : ℕ) (c : Count) → bar {A = A} why place (limits fuel room) c ≡ Err (cond (ltb c.steps fuel) (why (met_at place c)) (FuelSpent (met_at place c)))
+pub bar-is : {A : Type 0} (why : Met → Refusal) (place : Place) (fuel room : ℕ) (c : Count) → bar {A = A} why place (limits fuel room) c ≡ Err (cond (ltb c.steps fuel) (stopped_at why place c) (stopped_at FuelSpent place c))
 unfolding bar
 bar-is {A} why place fuel room c = go (ltb c.steps fuel)
   where
-    go : (b : Bool) → ◌≡◌ {A = Outcome A} (cond b (Err (why (met_at place c))) (Err (FuelSpent (met_at place c)))) (Err (cond b (why (met_at place c)) (FuelSpent (met_at place c))))
+    go : (b : Bool) → ◌≡◌ {A = Outcome A} (cond b (Err (stopped_at why place c)) (Err (stopped_at FuelSpent place c))) (Err (cond b (stopped_at why place c) (stopped_at FuelSpent place c)))
     go true = refl
     go false = refl
 
 -- the refusal that the code gives there
-pub barred-is : (M : Type 0) (b : Bool) (r why spent : Refusal) → MatchBool b (M × (r ≡ why)) (r ≡ spent) → cond b why spent ≡ r
-barred-is M true r why spent h = sym h.1
-barred-is M false r why spent h = sym h
+pub barred-is : (M : Type 0) (b : Bool) (r : Stopped) (why spent : Refusal) (c : Count) → MatchBool b (M × (r.why ≡ why)) (r.why ≡ spent) → r.count ≡ c → cond b (stopped why c) (stopped spent c) ≡ r
+barred-is M true r why spent c h k = λ m. record { why = sym h.1 m; count = sym k m }
+barred-is M false r why spent c h k = λ m. record { why = sym h m; count = sym k m }
 
 module _ (place : Place) (again : Work → Run Tree) (s : Work) (x : CutNumbers) (fuel room : ℕ) (c : Count) where
-  pub cut-many : s.cuts ≡ 24 → cut place again s x (limits fuel room) c ≡ Err (cond (ltb c.steps fuel) (Cuts (met_at place c)) (FuelSpent (met_at place c)))
+  pub cut-many : s.cuts ≡ 24 → cut place again s x (limits fuel room) c ≡ Err (cond (ltb c.steps fuel) (stopped_at Cuts place c) (stopped_at FuelSpent place c))
   unfolding cut
   cut-many h = ap (λ b. cond b (bar Cuts place) (cond (is_constant x) (cut_plain place again s x) (cond (eqb s.made 5) (bar NewParameters place) (cut_new place again s x))) (limits fuel room) c) (eq-eqb s.cuts 24 h) ∙ bar-is Cuts place fuel room c
 
@@ -63,16 +64,16 @@ module _ (place : Place) (again : Work → Run Tree) (s : Work) (x : CutNumbers)
       ∙ tick-then place (with_row place again s s.context s.made (cut_row x None)) fuel room c
 
 -- ---- a cut with a new parameter, at a node
-once-next : {A : Type 0} (r : Result Count Refusal) (m : Run A) (l : Limits) → next (counted r) (λ _. m) l ≡ once_ticked r (m l)
+once-next : {A : Type 0} (r : Result Count Stopped) (m : Run A) (l : Limits) → next (counted r) (λ _. m) l ≡ once_ticked r (m l)
 once-next (Ok c) m l = refl
 once-next (Err e) m l = refl
 
-pub ranged-then : {A : Type 0} (place : Place) (b : Bool) (m : Run A) (l : Limits) (c : Count) → (ranged place b >> m) l c ≡ cond b (m l c) (Err (Range (met_at place c)))
+pub ranged-then : {A : Type 0} (place : Place) (b : Bool) (m : Run A) (l : Limits) (c : Count) → (ranged place b >> m) l c ≡ cond b (m l c) (Err (stopped_at Range place c))
 unfolding ranged ◌>>◌ return refuse
 ranged-then place true m l c = refl
 ranged-then place false m l c = refl
 
-ticked-ext : {A : Type 0} (o : Result Count Refusal) (k m : Count → Outcome A) → ((d : Count) → k d ≡ m d) → once_ticked o k ≡ once_ticked o m
+ticked-ext : {A : Type 0} (o : Result Count Stopped) (k m : Count → Outcome A) → ((d : Count) → k d ≡ m d) → once_ticked o k ≡ once_ticked o m
 ticked-ext (Ok c) k m h = h c
 ticked-ext (Err e) k m h = refl
 
@@ -88,7 +89,7 @@ module _ (again : Work → Run Tree) (s : Work) (x : CutNumbers) (fuel room : �
       ap (λ b. cond b (bar Cuts Node) (cond (is_constant x) (cut_plain Node again s x) (cond (eqb s.made 5) (bar NewParameters Node) (cut_new Node again s x))) (limits fuel room) c) (ne_eqb s.cuts 24 (λ e. let no : ⊥ = omega (arith, e) in no))
       ∙ ap (λ b. cond b (cut_plain Node again s x) (cond (eqb s.made 5) (bar NewParameters Node) (cut_new Node again s x)) (limits fuel room) c) k
 
-  pub cut-fifth : s.made ≡ 5 → cut Node again s x (limits fuel room) c ≡ Err (cond (ltb c.steps fuel) (NewParameters (met_at Node c)) (FuelSpent (met_at Node c)))
+  pub cut-fifth : s.made ≡ 5 → cut Node again s x (limits fuel room) c ≡ Err (cond (ltb c.steps fuel) (stopped_at NewParameters Node c) (stopped_at FuelSpent Node c))
   cut-fifth h = named ∙ ap (λ b. cond b (bar NewParameters Node) (cut_new Node again s x) (limits fuel room) c) (eq-eqb s.made 5 h) ∙ bar-is NewParameters Node fuel room c
 
   -- the rows of the new parameter join the context, and the cut row the table
@@ -96,7 +97,7 @@ module _ (again : Work → Run Tree) (s : Work) (x : CutNumbers) (fuel room : �
   rows_join d =
       cond (within (lower x (4 + s.made)) && within (upper x (4 + s.made)))
       (below_new x.div x.form (with_row Node again s (s.context ++ (lower x (4 + s.made) ∷ (upper x (4 + s.made) ∷ []))) (suc s.made) (cut_row x (Some (4 + s.made))) (limits fuel room) d))
-      (Err (Range (met_at Node d)))
+      (Err (stopped_at Range Node d))
 
   last-part : Run Tree
   last-part = with_row Node again s (s.context ++ (lower x (4 + s.made) ∷ (upper x (4 + s.made) ∷ []))) (suc s.made) (cut_row x (Some (4 + s.made))) >>= (λ t. return (new x.div x.form t))
@@ -105,7 +106,7 @@ module _ (again : Work → Run Tree) (s : Work) (x : CutNumbers) (fuel room : �
   unfolding last-part ◌>>=◌
   joins d =
       ranged-then Node (within (lower x (4 + s.made)) && within (upper x (4 + s.made))) last-part (limits fuel room) d
-      ∙ ap (λ o. cond (within (lower x (4 + s.made)) && within (upper x (4 + s.made))) o (Err (Range (met_at Node d)))) (new_then x.div x.form (with_row Node again s (s.context ++ (lower x (4 + s.made) ∷ (upper x (4 + s.made) ∷ []))) (suc s.made) (cut_row x (Some (4 + s.made))) (limits fuel room) d) (limits fuel room))
+      ∙ ap (λ o. cond (within (lower x (4 + s.made)) && within (upper x (4 + s.made))) o (Err (stopped_at Range Node d))) (new_then x.div x.form (with_row Node again s (s.context ++ (lower x (4 + s.made) ∷ (upper x (4 + s.made) ∷ []))) (suc s.made) (cut_row x (Some (4 + s.made))) (limits fuel room) d) (limits fuel room))
 
   pub cut-new : s.made < 5 → cut Node again s x (limits fuel room) c ≡ once_ticked (ticked Node fuel c) (λ d. once_ticked (noted_in room d) rows_join)
   unfolding cut_new last-part
@@ -122,23 +123,23 @@ module _ (again : Work → Run Tree) (x : State) (k : CutNumbers) (fuel : ℕ) (
   l : Limits
   l = limits fuel (length before)
 
-  pub new-spent : (e : Refusal) → ticked Node fuel c ≡ Err e → cut Node again (work_of x) k (limits fuel (length before)) c ≡ Err e
+  pub new-spent : (e : Stopped) → ticked Node fuel c ≡ Err e → cut Node again (work_of x) k (limits fuel (length before)) c ≡ Err e
   new-spent e h = cut-new again (work_of x) k fuel (length before) c few named new ∙ ap (λ o. once_ticked o (λ d. once_ticked (noted_in (length before) d) (rows_join again (work_of x) k fuel (length before) c few named))) h
 
   module _ (d : Count) (h : ticked Node fuel c ≡ Ok d) where
     stepped-on : cut Node again (work_of x) k (limits fuel (length before)) c ≡ once_ticked (noted_in (length before) d) (rows_join again (work_of x) k fuel (length before) c few named)
     stepped-on = cut-new again (work_of x) k fuel (length before) c few named new ∙ ap (λ o. once_ticked o (λ d. once_ticked (noted_in (length before) d) (rows_join again (work_of x) k fuel (length before) c few named))) h
 
-    pub new-refused : (y : State) (after : List TreeNode) (e : Refusal) → NewMade x k before d y after (Err e) → cut Node again (work_of x) k (limits fuel (length before)) c ≡ Err e
+    pub new-refused : (y : State) (after : List TreeNode) (e : Stopped) → NewMade x k before d y after (Err e) → cut Node again (work_of x) k (limits fuel (length before)) c ≡ Err e
     new-refused y after e (inl p) = stepped-on ∙ ap (λ o. once_ticked o (rows_join again (work_of x) k fuel (length before) c few named)) (sym p)
     new-refused y after e (inr p) =
         stepped-on ∙ ap (λ o. once_ticked o (rows_join again (work_of x) k fuel (length before) c few named)) (sym p.1)
-        ∙ ap (λ b. cond b (below_new k.div k.form (with_row Node again (work_of x) (in_force x.context ++ (lower k (4 + x.context.made) ∷ (upper k (4 + x.context.made) ∷ []))) (suc x.context.made) (cut_row k (Some (4 + x.context.made))) (limits fuel (length before)) p.0)) (Err (Range (met_at Node p.0)))) p.2
+        ∙ ap (λ b. cond b (below_new k.div k.form (with_row Node again (work_of x) (in_force x.context ++ (lower k (4 + x.context.made) ∷ (upper k (4 + x.context.made) ∷ []))) (suc x.context.made) (cut_row k (Some (4 + x.context.made))) (limits fuel (length before)) p.0)) (Err (stopped_at Range Node p.0))) p.2
         ∙ ap Err (sym p.3)
 
     pub new_row : (y : State) (after : List TreeNode) (f : Count) → NewMade x k before d y after (Ok f) → cut Node again (work_of x) k (limits fuel (length before)) c ≡ below_new k.div k.form (with_row Node again (work_of x) (in_force y.context) y.context.made (cut_row k (Some (4 + x.context.made))) (limits fuel (length before)) f)
     new_row y after f p =
         stepped-on ∙ ap (λ o. once_ticked o (rows_join again (work_of x) k fuel (length before) c few named)) (sym p.0)
-        ∙ ap (λ b. cond b (below_new k.div k.form (with_row Node again (work_of x) (in_force x.context ++ (lower k (4 + x.context.made) ∷ (upper k (4 + x.context.made) ∷ []))) (suc x.context.made) (cut_row k (Some (4 + x.context.made))) (limits fuel (length before)) f)) (Err (Range (met_at Node f)))) p.1
+        ∙ ap (λ b. cond b (below_new k.div k.form (with_row Node again (work_of x) (in_force x.context ++ (lower k (4 + x.context.made) ∷ (upper k (4 + x.context.made) ∷ []))) (suc x.context.made) (cut_row k (Some (4 + x.context.made))) (limits fuel (length before)) f)) (Err (stopped_at Range Node f))) p.1
         ∙ ap (λ fs. below_new k.div k.form (with_row Node again (work_of x) fs (suc x.context.made) (cut_row k (Some (4 + x.context.made))) (limits fuel (length before)) f)) (sym p.2)
         ∙ ap (λ n. below_new k.div k.form (with_row Node again (work_of x) (in_force y.context) n (cut_row k (Some (4 + x.context.made))) (limits fuel (length before)) f)) (sym p.4)

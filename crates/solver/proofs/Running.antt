@@ -10,11 +10,11 @@ use Rattle.base.specs.declared.refusal.Place.TheVariants.{Node}
 use Rattle.tree.specs.declared.node.Node.{Node as TreeNode}
 use Rattle.tree.specs.Trees.{Tree, nodes}
 use Rattle.solver.specs.declared.count.Count.{Count}
+use Rattle.solver.specs.declared.count.Stopped.{Stopped}
 use Rattle.solver.specs.Ends.{Planted, Rooted}
 use Rattle.solver.specs.Rules.{Work, node, test}
-use Rattle.solver.specs.Runs.{Limits, Outcome, fail, next, write, ◌>>=◌, ◌>>◌}
-use Rattle.solver.specs.Solves.{begun, fuel_fits, keeps, run, solved, start, system_fits}
-use Rattle.base.specs.Refusals.{and_then}
+use Rattle.solver.specs.Runs.{Limits, Outcome, fail, next, stopped, write, ◌>>=◌, ◌>>◌}
+use Rattle.solver.specs.Solves.{begun, fuel_fits, keeps, nothing, run, run_if, solved, start, system_fits}
 use Rattle.solver.specs.Ties.{Wrote, noted_in}
 use Rattle.solver.proofs.Writing.{noted-from, write-made, write-refused, wrote-trans}
 
@@ -23,10 +23,10 @@ module _ (s : Work) (l : Limits) (c : Count) where
   unfolding run ◌>>=◌
   opened = refl
 
-  pub run-broken : (e : Refusal) → test s.parameters s.made s.context l c ≡ Err e → run s l c ≡ Err e
+  pub run-broken : (e : Stopped) → test s.parameters s.made s.context l c ≡ Err e → run s l c ≡ Err e
   run-broken e h = opened ∙ ap (λ o. next o (begun s) l) h
 
-  pub run-unmet : (d : Count) → test s.parameters s.made s.context l c ≡ Ok (false, d) → run s l c ≡ Err NoParameterPoint
+  pub run-unmet : (d : Count) → test s.parameters s.made s.context l c ≡ Ok (false, d) → run s l c ≡ Err (stopped NoParameterPoint d)
   unfolding begun fail
   run-unmet d h = opened ∙ ap (λ o. next o (begun s) l) h
 
@@ -35,7 +35,7 @@ module _ (s : Work) (l : Limits) (c : Count) where
     unfolding begun
     begins = opened ∙ ap (λ o. next o (begun s) l) met
 
-    pub run-full : (e : Refusal) → Err e ≡ noted_in l.room d → run s l c ≡ Err e
+    pub run-full : (e : Stopped) → Err e ≡ noted_in l.room d → run s l c ≡ Err e
     run-full e h = begins ∙ write-refused (keeps s.context >> node 12 s) l d e h
 
     module _ (f : Count) (wrote : Ok f ≡ noted_in l.room d) where
@@ -43,14 +43,14 @@ module _ (s : Work) (l : Limits) (c : Count) where
       unfolding ◌>>◌
       headed = begins ∙ write-made (keeps s.context >> node 12 s) l d f wrote
 
-      pub run-keeps-full : (e : Refusal) → keeps s.context l f ≡ Err e → run s l c ≡ Err e
+      pub run-keeps-full : (e : Stopped) → keeps s.context l f ≡ Err e → run s l c ≡ Err e
       run-keeps-full e h = headed ∙ ap (λ o. next o (λ _. node 12 s) l) h
 
       pub run-kept : (k : Count) → keeps s.context l f ≡ Ok (tt, k) → run s l c ≡ node 12 s l k
       run-kept k h = headed ∙ ap (λ o. next o (λ _. node 12 s) l) h
 
 -- the head, the keeps, and the tree
-pub rooted : (before w₁ w₂ after : List TreeNode) (head : TreeNode) (ks : List TreeNode) (d f k : Count) (r : Result Count Refusal) (o : Outcome Tree) → length w₁ ≡ length before → length w₂ ≡ length before → d.nodes ≡ 0 → Ok f ≡ noted_in (length before) d → Wrote before d.nodes (head ∷ []) w₁ → Wrote w₁ f.nodes ks w₂ → k.nodes ≡ f.nodes + length ks → k.nodes ≤ length before → Planted w₂ k after r o → Rooted before (head ∷ ks) after r o
+pub rooted : (before w₁ w₂ after : List TreeNode) (head : TreeNode) (ks : List TreeNode) (d f k : Count) (r : Result Count Stopped) (o : Outcome Tree) → length w₁ ≡ length before → length w₂ ≡ length before → d.nodes ≡ 0 → Ok f ≡ noted_in (length before) d → Wrote before d.nodes (head ∷ []) w₁ → Wrote w₁ f.nodes ks w₂ → k.nodes ≡ f.nodes + length ks → k.nodes ≤ length before → Planted w₂ k after r o → Rooted before (head ∷ ks) after r o
 rooted before w₁ w₂ after head ks d f k (Ok m) o long₁ long₂ z h a b n le q =
     let p = noted-from (length before) d f h in
     let one : f.nodes ≡ suc d.nodes = ap (λ x. x.nodes) p.1 in
@@ -67,21 +67,21 @@ rooted before w₁ w₂ after head ks d f k (Ok m) o long₁ long₂ z h a b n l
 rooted before w₁ w₂ after head ks d f k (Err e) o long₁ long₂ z h a b n le q = q
 
 -- ---- a solve
-pub solved-unfit : (S : System) (fuel : ℤ) (room : ℕ) (e : Refusal) → system_fits S ≡ Err e → solved S fuel room ≡ Err e
+pub solved-unfit : (S : System) (fuel : ℤ) (room : ℕ) (e : Refusal) → system_fits S ≡ Err e → solved S fuel room ≡ Err (stopped e nothing)
 unfolding solved
-solved-unfit S fuel room e h = ap (λ a. and_then a (and_then (fuel_fits fuel) (run (start S) (record { fuel = nat_abs fuel; room = room }) (record { steps = 0; nodes = 0 })))) h
+solved-unfit S fuel room e h = ap (λ a. run_if a (run_if (fuel_fits fuel) (run (start S) (record { fuel = nat_abs fuel; room = room }) nothing))) h
 
-pub solved-spent : (S : System) (fuel : ℤ) (room : ℕ) → system_fits S ≡ Ok tt → fuel_fits fuel ≡ Err Fuel → solved S fuel room ≡ Err Fuel
+pub solved-spent : (S : System) (fuel : ℤ) (room : ℕ) → system_fits S ≡ Ok tt → fuel_fits fuel ≡ Err Fuel → solved S fuel room ≡ Err (stopped Fuel nothing)
 unfolding solved
 solved-spent S fuel room h f =
-    ap (λ a. and_then a (and_then (fuel_fits fuel) (run (start S) (record { fuel = nat_abs fuel; room = room }) (record { steps = 0; nodes = 0 })))) h
-    ∙ ap (λ a. and_then a (run (start S) (record { fuel = nat_abs fuel; room = room }) (record { steps = 0; nodes = 0 }))) f
+    ap (λ a. run_if a (run_if (fuel_fits fuel) (run (start S) (record { fuel = nat_abs fuel; room = room }) nothing))) h
+    ∙ ap (λ a. run_if a (run (start S) (record { fuel = nat_abs fuel; room = room }) nothing)) f
 
-pub solved-runs : (S : System) (fuel : ℤ) (room : ℕ) → system_fits S ≡ Ok tt → fuel_fits fuel ≡ Ok tt → solved S fuel room ≡ run (start S) (record { fuel = nat_abs fuel; room = room }) (record { steps = 0; nodes = 0 })
+pub solved-runs : (S : System) (fuel : ℤ) (room : ℕ) → system_fits S ≡ Ok tt → fuel_fits fuel ≡ Ok tt → solved S fuel room ≡ run (start S) (record { fuel = nat_abs fuel; room = room }) nothing
 unfolding solved
 solved-runs S fuel room h f =
-    ap (λ a. and_then a (and_then (fuel_fits fuel) (run (start S) (record { fuel = nat_abs fuel; room = room }) (record { steps = 0; nodes = 0 })))) h
-    ∙ ap (λ a. and_then a (run (start S) (record { fuel = nat_abs fuel; room = room }) (record { steps = 0; nodes = 0 }))) f
+    ap (λ a. run_if a (run_if (fuel_fits fuel) (run (start S) (record { fuel = nat_abs fuel; room = room }) nothing))) h
+    ∙ ap (λ a. run_if a (run (start S) (record { fuel = nat_abs fuel; room = room }) nothing)) f
 
 pub fuel-below : (fuel : ℤ) → fuel <ℤ pos 0 → fuel_fits fuel ≡ Err Fuel
 fuel-below fuel h = ap (λ b. cond (b && le_z fuel (pos 100_000)) (Ok tt) (Err Fuel)) (let e : le_z (pos 0) fuel ≡ false = grind (arith, ints) in e)

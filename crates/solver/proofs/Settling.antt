@@ -1,13 +1,13 @@
 -- The work at a node, a turn at a time.
 use Rattle.std.proofs.Common.{◌≡◌, ℕ, suc, ◌+◌, ◌<◌, ◌≤◌, List, [], ◌∷◌, ◌++◌, length, get_or, ℤ, IfOk, Some, None, Ok, Err, Result, sym, refl, ap, ◌∙◌, subst, add-one, arith, length-append}
 use Rattle.base.specs.declared.refusal.Place.TheVariants.{Node}
-use Rattle.base.specs.declared.refusal.Refusal.{Refusal}
 use Rattle.tableau.specs.declared.table.Table.{Table}
 use Rattle.tableau.specs.Columns.{pivot_place}
 use Rattle.tableau.specs.Cuts.{cut_of, first_fraction}
 use Rattle.tableau.specs.Tables.{in_use, no_row, rest, top}
 use Rattle.tree.specs.Trees.{Tree}
 use Rattle.solver.specs.declared.count.Count.{Count}
+use Rattle.solver.specs.declared.count.Stopped.{Stopped}
 use Rattle.solver.specs.declared.settle.End.{End}
 use Rattle.solver.specs.declared.settle.End.TheVariants.{Leaf, None as NoPoint, Split}
 use Rattle.solver.specs.declared.sign.Scan.{Scan as Found}
@@ -27,12 +27,12 @@ use Rattle.solver.proofs.Turning.{place_none, place-some}
 use Rattle.tableau.proofs.Parts.{both_used}
 
 -- the work after a cut
-pub worked-new : (x y : State) (t : Table) (r : Result Count Refusal) → y.context.parameters ≡ x.context.parameters → y.cuts ≡ x.cuts → moved t (after_cut (work_of x) (in_force y.context) y.context.made) r ≡ worked (record { table = t; context = y.context; cuts = y.cuts + 1; left = y.left }) r
+pub worked-new : (x y : State) (t : Table) (r : Result Count Stopped) → y.context.parameters ≡ x.context.parameters → y.cuts ≡ x.cuts → moved t (after_cut (work_of x) (in_force y.context) y.context.made) r ≡ worked (record { table = t; context = y.context; cuts = y.cuts + 1; left = y.left }) r
 worked-new x y t (Ok c) e f = λ k. Ok (record { top = top t; rest = rest t; context = in_force y.context; parameters = sym e k; made = y.context.made; cuts = sym (add-one y.cuts ∙ ap suc f) k }, c)
 worked-new x y t (Err q) e f = refl
 
 -- the node of one new parameter was written
-pub noted_one : (before after : List TreeNode) (from d f : Count) (D : ℤ) (T : List ℤ) (r : Result Count Refusal) → Ok f ≡ noted_in (length before) d → d.nodes ≡ from.nodes → Wrote before d.nodes (New D T ∷ []) after → IfOk r (λ c. c.nodes ≡ f.nodes) → Noted before from ((D, T) ∷ []) after r
+pub noted_one : (before after : List TreeNode) (from d f : Count) (D : ℤ) (T : List ℤ) (r : Result Count Stopped) → Ok f ≡ noted_in (length before) d → d.nodes ≡ from.nodes → Wrote before d.nodes (New D T ∷ []) after → IfOk r (λ c. c.nodes ≡ f.nodes) → Noted before from ((D, T) ∷ []) after r
 noted_one before after from d f D T (Ok c) e n w m = λ h.
     let p = noted-from (length before) d f e in
     let q = ap (λ x. x.nodes) p.1 in
@@ -40,7 +40,7 @@ noted_one before after from d f D T (Ok c) e n w m = λ h.
 noted_one before after from d f D T (Err x) e n w m = tt
 
 -- nothing was written
-pub noted-none : (before : List TreeNode) (from : Count) (r : Result Count Refusal) → IfOk r (λ c. c.nodes ≡ from.nodes) → Noted before from [] before r
+pub noted-none : (before : List TreeNode) (from : Count) (r : Result Count Stopped) → IfOk r (λ c. c.nodes ≡ from.nodes) → Noted before from [] before r
 noted-none before from (Ok c) m = λ h. (wrote_none before from.nodes, omega (arith, m), omega (arith, m))
 noted-none before from (Err x) m = tt
 
@@ -79,7 +79,7 @@ work-turned x y t e = λ k. record { top = top t; rest = rest t; context = e.row
 pub work-known : (x : State) → KnownAs x.context (work_of x)
 work-known x = record { context = refl; parameters = refl; made = refl }
 
-module _ (splits : Work → List ℤ → Run Tree) (gas g : ℕ) (some : gas ≡ suc g) (x : State) (inside : x.table.unknowns ≤ x.table.count) (l : Limits) (c : Count) (r : Result (Found × Count) Refusal) (scans : scan (sign_in (work_of x)) (in_use x.table) l c ≡ scanned_at x.table.rows r) where
+module _ (splits : Work → List ℤ → Run Tree) (gas g : ℕ) (some : gas ≡ suc g) (x : State) (inside : x.table.unknowns ≤ x.table.count) (l : Limits) (c : Count) (r : Result (Found × Count) Stopped) (scans : scan (sign_in (work_of x)) (in_use x.table) l c ≡ scanned_at x.table.rows r) where
   t : Table
   t = x.table
 
@@ -93,7 +93,7 @@ module _ (splits : Work → List ℤ → Run Tree) (gas g : ℕ) (some : gas ≡
       ∙ ap (λ rs. next (scan (sign_in (work_of x)) rs l c) (act (solving splits) (settle (solving splits) g) (work_of x)) l) (both_used x.table inside)
       ∙ ap (λ o. next o (act (solving splits) (settle (solving splits) g) (work_of x)) l) scans
 
-  pub node-broken : (e : Refusal) → r ≡ Err e → settle (solving splits) gas (work_of x) l c ≡ Err e
+  pub node-broken : (e : Stopped) → r ≡ Err e → settle (solving splits) gas (work_of x) l c ≡ Err e
   unfolding t s
   node-broken e h = opened ∙ ap (λ r. next (scanned_at x.table.rows r) (act (solving splits) (settle (solving splits) g) (work_of x)) l) h
 
@@ -134,5 +134,5 @@ module _ (fuel : ℕ) (x₀ : State) (before after : List TreeNode) (from : Coun
     λ splits. left splits ∙ ap (below_all news) (ends splits ∙ ap (λ s. ended splits x.table end s (limits fuel (length before)) d) (sym (work-same x y same))),
   )
 
-  pub settled-refused : (z : State) (r : Result (End × Count) Refusal) (e : Refusal) → r ≡ Err e → ((splits : Work → List ℤ → Run Tree) → settle (solving splits) 100_001 (work_of x₀) (limits fuel (length before)) from ≡ below_all news (Err e)) → Settled fuel x₀ before from z after r
+  pub settled-refused : (z : State) (r : Result (End × Count) Stopped) (e : Stopped) → r ≡ Err e → ((splits : Work → List ℤ → Run Tree) → settle (solving splits) 100_001 (work_of x₀) (limits fuel (length before)) from ≡ below_all news (Err e)) → Settled fuel x₀ before from z after r
   settled-refused z r e is left = subst (Settled fuel x₀ before from z after) (sym is) (news, tt, left)

@@ -1,13 +1,13 @@
 -- The sign of a form, and the signs of rows in order.
 use Rattle.std.proofs.Common.{◌≡◌, ℕ, ◌+◌, ◌≤◌, Bool, true, false, cond, ◌&&◌, List, [], ◌∷◌, get_or, ℤ, pos, Ok, Err, sym, refl, ap, ◌∙◌, arith}
 use lib.Signed.{lt_z}
-use Rattle.base.specs.declared.refusal.Refusal.{Refusal}
 use Rattle.base.specs.Forms.{opposite}
 use Rattle.base.specs.Numbers.{at}
 use Rattle.tableau.specs.declared.table.Row.{Row}
 use Rattle.tableau.specs.Tables.{no_row}
 use Rattle.solver.specs.declared.context.Context.{Context}
 use Rattle.solver.specs.declared.count.Count.{Count}
+use Rattle.solver.specs.declared.count.Stopped.{Stopped}
 use Rattle.solver.specs.declared.sign.Scan.{Scan as Found}
 use Rattle.solver.specs.declared.sign.Scan.TheVariants.{Negative as NegativeAt, Unsure, Clear}
 use Rattle.solver.specs.declared.sign.Sign.{Sign}
@@ -39,7 +39,7 @@ module _ (s : Work) (C : List ℤ) (l : Limits) (c : Count) where
         ap (λ b. cond b (return NonNegative) (cond (lt_z (at C 9) (pos 0) && none_above C) (return Negative) (test_with s (opposite C) >>= after_below s C)) l c) e
         ∙ ap (λ b. cond b (return Negative) (test_with s (opposite C) >>= after_below s C) l c) f
 
-    pub sign-broken : (r : Refusal) → test_with s (opposite C) l c ≡ Err r → sign_in s C l c ≡ Err r
+    pub sign-broken : (r : Stopped) → test_with s (opposite C) l c ≡ Err r → sign_in s C l c ≡ Err r
     sign-broken r h = tests ∙ ap (λ o. next o (after_below s C) l) h
 
     pub sign-not-below : (d : Count) → test_with s (opposite C) l c ≡ Ok (false, d) → sign_in s C l c ≡ Ok (NonNegative, d)
@@ -68,7 +68,7 @@ NotYet (NegativeAt k) = ⊥
 NotYet (Unsure k) = Unit {0}
 NotYet Clear = Unit {0}
 
-pub remembers-refusal : (rows : List Row) (f : Found) (e : Refusal) → remembered rows f (Err e) ≡ Err e
+pub remembers-refusal : (rows : List Row) (f : Found) (e : Stopped) → remembered rows f (Err e) ≡ Err e
 remembers-refusal rows Clear e = refl
 remembers-refusal rows (NegativeAt k) e = refl
 remembers-refusal rows (Unsure k) e = refl
@@ -101,7 +101,7 @@ not-yet-unsure (Unsure k) h n = tt
 
 -- a turn: the sign of the next row is o
 module _ (sign : List ℤ → Run Sign) (rows : List Row) (f : Found) (r : Row) (rs : List Row) (l : Limits) (c : Count) where
-  pub scan-broken : (e : Refusal) → sign r.form l c ≡ Err e → remembered rows f (scan sign (r ∷ rs) l c) ≡ Err e
+  pub scan-broken : (e : Stopped) → sign r.form l c ≡ Err e → remembered rows f (scan sign (r ∷ rs) l c) ≡ Err e
   unfolding scan ◌>>=◌
   scan-broken e h = ap (λ o. remembered rows f (next o (scanned r (scan sign rs)) l)) h ∙ remembers-refusal rows f e
 

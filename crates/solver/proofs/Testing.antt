@@ -13,13 +13,13 @@ use Rattle.tableau.specs.Tables.{in_use, no_row, rest, top, unit_rows}
 use Rattle.tree.specs.Trees.{Tree, leaf, none}
 use Rattle.solver.specs.declared.context.Context.{Context}
 use Rattle.solver.specs.declared.count.Count.{Count}
+use Rattle.solver.specs.declared.count.Stopped.{Stopped}
 use Rattle.solver.specs.Bounds.{in_force}
-use Rattle.solver.specs.Runs.{Limits, Outcome, met_at, refuse, return, next, ◌>>=◌, ◌>>◌, write}
+use Rattle.solver.specs.Runs.{Limits, Outcome, refuse, return, next, ◌>>=◌, ◌>>◌, write, stopped_at}
 use Rattle.base.specs.declared.refusal.Refusal.TheVariants.{Range}
 use Rattle.base.specs.Numbers.{within}
 use Rattle.solver.specs.Rules.{Scan, Way, Work, act, below, clear, cut, finish, fraction, has_point, lift, scan, scanned, settle, ranged, sign_of, test, test_with, test_work, testing, turn}
 use Rattle.solver.specs.Tests.{test_row}
-use Rattle.base.specs.declared.refusal.Refusal.{Refusal}
 use Rattle.solver.specs.Ties.{KnownAs, after_cut, first_negative, moved, test_of, tested}
 use Rattle.tableau.proofs.Units.{length-units}
 use Rattle.tableau.specs.Columns.{pivot_place}
@@ -151,25 +151,25 @@ pub test-is : (p made : ℕ) (forms : List (List ℤ)) (l : Limits) (c : Count) 
 unfolding test ◌>>=◌
 test-is p made forms l c = refl
 
-pub tested-is : (t u : Table) (cuts : ℕ) (r : Result Count Refusal) → moved u (after_cut (test_of t cuts) [] 0) r ≡ tested u (suc cuts) r
+pub tested-is : (t u : Table) (cuts : ℕ) (r : Result Count Stopped) → moved u (after_cut (test_of t cuts) [] 0) r ≡ tested u (suc cuts) r
 tested-is t u cuts (Ok c) = refl
 tested-is t u cuts (Err e) = refl
 
 -- ---- a test with one more row
-with-is : (s : Work) (C : List ℤ) (l : Limits) (c : Count) → test_with s C l c ≡ cond (within C) (test s.parameters s.made (s.context ++ C ∷ []) l c) (Err (Range (met_at Test c)))
+with-is : (s : Work) (C : List ℤ) (l : Limits) (c : Count) → test_with s C l c ≡ cond (within C) (test s.parameters s.made (s.context ++ C ∷ []) l c) (Err (stopped_at Range Test c))
 unfolding test_with ◌>>◌ ranged return refuse
 with-is s C l c = go (within C)
   where
-    go : (b : Bool) → next {A = Unit {0}} (cond b (return (tt {0})) (refuse Range Test) l c) (λ _. test s.parameters s.made (s.context ++ C ∷ [])) l ≡ cond b (test s.parameters s.made (s.context ++ C ∷ []) l c) (Err (Range (met_at Test c)))
+    go : (b : Bool) → next {A = Unit {0}} (cond b (return (tt {0})) (refuse Range Test) l c) (λ _. test s.parameters s.made (s.context ++ C ∷ [])) l ≡ cond b (test s.parameters s.made (s.context ++ C ∷ []) l c) (Err (stopped_at Range Test c))
     go true = refl
     go false = refl
 
-pub with-row-out : (s : Work) (C : List ℤ) (l : Limits) (c : Count) → within C ≡ false → test_with s C l c ≡ Err (Range (met_at Test c))
-with-row-out s C l c e = with-is s C l c ∙ ap (λ b. cond b (test s.parameters s.made (s.context ++ C ∷ []) l c) (Err (Range (met_at Test c)))) e
+pub with-row-out : (s : Work) (C : List ℤ) (l : Limits) (c : Count) → within C ≡ false → test_with s C l c ≡ Err (stopped_at Range Test c)
+with-row-out s C l c e = with-is s C l c ∙ ap (λ b. cond b (test s.parameters s.made (s.context ++ C ∷ []) l c) (Err (stopped_at Range Test c))) e
 
 pub with-row-in : (s : Work) (C : List ℤ) (l : Limits) (c : Count) (x : Context) → KnownAs x s → (p made : ℕ) (forms : List (List ℤ)) → p ≡ x.parameters → made ≡ x.made → forms ≡ in_force x ++ C ∷ [] → within C ≡ true → test_with s C l c ≡ test p made forms l c
 with-row-in s C l c x k p made forms e f g h =
-    with-is s C l c ∙ ap (λ b. cond b (test s.parameters s.made (s.context ++ C ∷ []) l c) (Err (Range (met_at Test c)))) h
+    with-is s C l c ∙ ap (λ b. cond b (test s.parameters s.made (s.context ++ C ∷ []) l c) (Err (stopped_at Range Test c))) h
     ∙ ap (λ p. test p s.made (s.context ++ C ∷ []) l c) (k.parameters ∙ sym e) ∙ ap (λ m. test p m (s.context ++ C ∷ []) l c) (k.made ∙ sym f)
     ∙ ap (λ fs. test p made fs l c) (ap (λ fs. fs ++ C ∷ []) k.context ∙ sym g)
 

@@ -2,7 +2,6 @@
 use Rattle.std.proofs.Common.{◌≡◌, ℕ, suc, ◌+◌, ◌<◌, ◌≤◌, Bool, true, false, cond, ltb, List, [], ◌∷◌, ◌++◌, map, length, get_or, drop, ℤ, Some, None, Ok, Err, Option, Result, sym, refl, ap, ◌∙◌, arith}
 use Rattle.std.proofs.lemmas.List.{at_drop_more, get_or-take, length-take, map-append}
 use Rattle.base.specs.declared.refusal.Place.{Place}
-use Rattle.base.specs.declared.refusal.Refusal.{Refusal}
 use Rattle.base.specs.declared.refusal.Refusal.TheVariants.{FuelSpent, Range}
 use Rattle.tableau.specs.declared.table.Row.{Row}
 use Rattle.tableau.specs.declared.table.Table.{Table}
@@ -12,7 +11,8 @@ use Rattle.tableau.proofs.Parts.{both_used, rest-mapped, top-mapped}
 use Rattle.tableau.specs.Tables.{all_fit, in_use, no_row, rest, top}
 use Rattle.tree.specs.Trees.{Tree}
 use Rattle.solver.specs.declared.count.Count.{Count}
-use Rattle.solver.specs.Runs.{Limits, Outcome, Run, return, next, ◌>>=◌, ◌>>◌, refuse, tick, met_at, stepped}
+use Rattle.solver.specs.declared.count.Stopped.{Stopped}
+use Rattle.solver.specs.Runs.{Limits, Outcome, Run, return, next, ◌>>=◌, ◌>>◌, refuse, tick, stepped, stopped_at}
 use Rattle.solver.specs.Rules.{Work, added, ranged, turn, with_row}
 use Rattle.solver.specs.Ties.{after_cut, limits, ticked, with_table}
 
@@ -27,33 +27,33 @@ abbrev pub turned_work : Row → ℕ → Work → Work
 turned_work i j s = record { top = map (pivoted i j) s.top; rest = map (pivoted i j) s.rest; context = s.context; parameters = s.parameters; made = s.made; cuts = s.cuts }
 
 -- what is left to do once the step is counted
-abbrev pub after_tick : Place → Row → ℕ → Work → Result Count Refusal → Outcome Work
+abbrev pub after_tick : Place → Row → ℕ → Work → Result Count Stopped → Outcome Work
 after_tick place i j s (Err e) = Err e
-after_tick place i j s (Ok c) = cond (all_fit (map (pivoted i j) s.top ++ map (pivoted i j) s.rest)) (Ok (turned_work i j s, c)) (Err (Range (met_at place c)))
+after_tick place i j s (Ok c) = cond (all_fit (map (pivoted i j) s.top ++ map (pivoted i j) s.rest)) (Ok (turned_work i j s, c)) (Err (stopped_at Range place c))
 
 pub turn_is : (place : Place) (i : Row) (j : ℕ) (s : Work) (fuel room : ℕ) (c : Count) → turn place i j s (limits fuel room) c ≡ after_tick place i j s (ticked place fuel c)
 unfolding turn ◌>>◌ tick ranged return refuse
 turn_is place i j s fuel room c = go (ltb c.steps fuel) (all_fit (map (pivoted i j) s.top ++ map (pivoted i j) s.rest))
   where
-    go : (b a : Bool) → next {A = Unit {0}} (cond b (Ok (tt {0}, stepped c)) (Err (FuelSpent (met_at place c)))) (λ _. cond a (return (tt {0})) (refuse Range place) >> return (turned_work i j s)) (limits fuel room) ≡ elim (cond b (Ok (stepped c)) (Err (FuelSpent (met_at place c)))) [ Ok c ↦ cond a (Ok (turned_work i j s, c)) (Err (Range (met_at place c))) | Err e ↦ Err e ]
+    go : (b a : Bool) → next {A = Unit {0}} (cond b (Ok (tt {0}, stepped c)) (Err (stopped_at FuelSpent place c))) (λ _. cond a (return (tt {0})) (refuse Range place) >> return (turned_work i j s)) (limits fuel room) ≡ elim (cond b (Ok (stepped c)) (Err (stopped_at FuelSpent place c))) [ Ok c ↦ cond a (Ok (turned_work i j s, c)) (Err (stopped_at Range place c)) | Err e ↦ Err e ]
     go true true = refl
     go true false = refl
     go false a = refl
 
 module _ (place : Place) (i : Row) (j : ℕ) (t : Table) (s : Work) (fuel room : ℕ) (c : Count) where
-  pub turn-left : (e : Refusal) → ticked place fuel c ≡ Err e → turn place i j (with_table t s) (limits fuel room) c ≡ Err e
+  pub turn-left : (e : Stopped) → ticked place fuel c ≡ Err e → turn place i j (with_table t s) (limits fuel room) c ≡ Err e
   turn-left e h = turn_is place i j (with_table t s) fuel room c ∙ ap (after_tick place i j (with_table t s)) h
 
   module _ (u : Table) (h : t.unknowns ≤ t.count) (counts : (u.count ≡ t.count) × (u.unknowns ≡ t.unknowns)) (rows : in_use u ≡ map (pivoted i j) (in_use t)) (d : Count) (k : ticked place fuel c ≡ Ok d) where
     all-rows : map (pivoted i j) (top t) ++ map (pivoted i j) (rest t) ≡ in_use u
     all-rows = sym (map-append (pivoted i j) (top t) (rest t)) ∙ ap (map (pivoted i j)) (both_used t h) ∙ sym rows
 
-    step : (b : Bool) → all_fit (in_use u) ≡ b → turn place i j (with_table t s) (limits fuel room) c ≡ cond b (Ok (turned_work i j (with_table t s), d)) (Err (Range (met_at place d)))
+    step : (b : Bool) → all_fit (in_use u) ≡ b → turn place i j (with_table t s) (limits fuel room) c ≡ cond b (Ok (turned_work i j (with_table t s), d)) (Err (stopped_at Range place d))
     step b e =
         turn_is place i j (with_table t s) fuel room c ∙ ap (after_tick place i j (with_table t s)) k
-        ∙ ap (λ a. cond a (Ok (turned_work i j (with_table t s), d)) (Err (Range (met_at place d)))) (ap all_fit all-rows ∙ e)
+        ∙ ap (λ a. cond a (Ok (turned_work i j (with_table t s), d)) (Err (stopped_at Range place d))) (ap all_fit all-rows ∙ e)
 
-    pub turn-broken : all_fit (in_use u) ≡ false → turn place i j (with_table t s) (limits fuel room) c ≡ Err (Range (met_at place d))
+    pub turn-broken : all_fit (in_use u) ≡ false → turn place i j (with_table t s) (limits fuel room) c ≡ Err (stopped_at Range place d)
     turn-broken e = step false e
 
     turned-table : turned_work i j (with_table t s) ≡ with_table u s
@@ -74,17 +74,17 @@ module _ (place : Place) (i : Row) (j : ℕ) (t : Table) (s : Work) (fuel room :
 abbrev pub plus_row : Work → List (List ℤ) → ℕ → Row → Work
 plus_row s context made r = record { top = s.top; rest = s.rest ++ r ∷ []; context = context; parameters = s.parameters; made = made; cuts = suc s.cuts }
 
-with-row-is : (place : Place) (again : Work → Run Tree) (s : Work) (context : List (List ℤ)) (n : ℕ) (r : Row) (l : Limits) (c : Count) → with_row place again s context n r l c ≡ cond (fits r) (added place again (plus_row s context n r) r (entering s.top r) l c) (Err (Range (met_at place c)))
+with-row-is : (place : Place) (again : Work → Run Tree) (s : Work) (context : List (List ℤ)) (n : ℕ) (r : Row) (l : Limits) (c : Count) → with_row place again s context n r l c ≡ cond (fits r) (added place again (plus_row s context n r) r (entering s.top r) l c) (Err (stopped_at Range place c))
 unfolding with_row ◌>>◌ ranged return refuse
 with-row-is place again s context n r l c = go (fits r)
   where
-    go : (b : Bool) → next {A = Unit {0}} (cond b (return (tt {0})) (refuse Range place) l c) (λ _. added place again (plus_row s context n r) r (entering s.top r)) l ≡ cond b (added place again (plus_row s context n r) r (entering s.top r) l c) (Err (Range (met_at place c)))
+    go : (b : Bool) → next {A = Unit {0}} (cond b (return (tt {0})) (refuse Range place) l c) (λ _. added place again (plus_row s context n r) r (entering s.top r)) l ≡ cond b (added place again (plus_row s context n r) r (entering s.top r) l c) (Err (stopped_at Range place c))
     go true = refl
     go false = refl
 
 module _ (place : Place) (again : Work → Run Tree) (t : Table) (s : Work) (context : List (List ℤ)) (n : ℕ) (r : Row) (fuel room : ℕ) (c : Count) where
-  pub row-broken : fits r ≡ false → with_row place again (with_table t s) context n r (limits fuel room) c ≡ Err (Range (met_at place c))
-  row-broken e = with-row-is place again (with_table t s) context n r (limits fuel room) c ∙ ap (λ b. cond b (added place again (plus_row (with_table t s) context n r) r (entering (top t) r) (limits fuel room) c) (Err (Range (met_at place c)))) e
+  pub row-broken : fits r ≡ false → with_row place again (with_table t s) context n r (limits fuel room) c ≡ Err (stopped_at Range place c)
+  row-broken e = with-row-is place again (with_table t s) context n r (limits fuel room) c ∙ ap (λ b. cond b (added place again (plus_row (with_table t s) context n r) r (entering (top t) r) (limits fuel room) c) (Err (stopped_at Range place c))) e
 
   module _ (u : Table) (tops : top u ≡ top t) (rests : rest u ≡ rest t ++ r ∷ []) (h : fits r ≡ true) where
     grown : plus_row (with_table t s) context n r ≡ with_table u (after_cut s context n)
@@ -93,7 +93,7 @@ module _ (place : Place) (again : Work → Run Tree) (t : Table) (s : Work) (con
     added_is : (o : Option ℕ) → entering (top u) r ≡ o → with_row place again (with_table t s) context n r (limits fuel room) c ≡ added place again (with_table u (after_cut s context n)) r o (limits fuel room) c
     added_is o e =
         with-row-is place again (with_table t s) context n r (limits fuel room) c
-        ∙ ap (λ b. cond b (added place again (plus_row (with_table t s) context n r) r (entering (top t) r) (limits fuel room) c) (Err (Range (met_at place c)))) h
+        ∙ ap (λ b. cond b (added place again (plus_row (with_table t s) context n r) r (entering (top t) r) (limits fuel room) c) (Err (stopped_at Range place c))) h
         ∙ ap (λ w. added place again w r (entering (top t) r) (limits fuel room) c) grown
         ∙ ap (λ x. added place again (with_table u (after_cut s context n)) r x (limits fuel room) c) (ap (λ x. entering x r) (sym tops) ∙ e)
 

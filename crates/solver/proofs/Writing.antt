@@ -3,7 +3,6 @@ use Rattle.std.proofs.Common.{◌≡◌, ℕ, suc, ◌+◌, ◌-◌, ◌<◌, �
 use Rattle.std.proofs.lemmas.List.{append_assoc, at_drop_all, at_drop_more, drop_at, drop-drop, length-append, length-drop, length-map, length-take-le, map_more, set_at, set_split, take_all, take-append-drop, take_at}
 use Rattle.std.proofs.lemmas.Bool.{ltb-true}
 use Rattle.base.specs.declared.refusal.Place.TheVariants.{Node}
-use Rattle.base.specs.declared.refusal.Refusal.{Refusal}
 use Rattle.base.specs.declared.refusal.Refusal.TheVariants.{WorkFull}
 use Rattle.tableau.specs.declared.table.Row.{Row}
 use Rattle.tableau.specs.Tables.{no_row}
@@ -12,8 +11,9 @@ use Rattle.tree.specs.declared.node.Node.TheVariants.{Keep}
 use Rattle.tree.specs.Trees.{six_forms}
 use Rattle.solver.specs.declared.context.Context.{Context}
 use Rattle.solver.specs.declared.count.Count.{Count}
+use Rattle.solver.specs.declared.count.Stopped.{Stopped}
 use Rattle.solver.specs.Bounds.{in_force}
-use Rattle.solver.specs.Runs.{Limits, Run, met_at, noted, next, return, write, ◌>>◌}
+use Rattle.solver.specs.Runs.{Limits, Run, noted, next, return, write, ◌>>◌, stopped_at}
 use Rattle.solver.specs.Solves.{keeps}
 use Rattle.solver.specs.Ties.{Wrote, counted, limits, noted_in, solution_of}
 
@@ -56,7 +56,7 @@ pub write-is : (l : Limits) (c : Count) → write Node l c ≡ counted (noted_in
 unfolding write
 write-is l c = go (ltb c.nodes l.room)
   where
-    go : (b : Bool) → cond b (Ok (tt, noted c)) (Err (WorkFull (met_at Node c))) ≡ counted (cond b (Ok (noted c)) (Err (WorkFull (met_at Node c))))
+    go : (b : Bool) → cond b (Ok (tt, noted c)) (Err (stopped_at WorkFull Node c)) ≡ counted (cond b (Ok (noted c)) (Err (stopped_at WorkFull Node c)))
     go true = refl
     go false = refl
 
@@ -68,7 +68,7 @@ write_then m l c = ap (λ o. next o (λ _. m) l) (write-is l c)
 pub write-made : {A : Type 0} (m : Run A) (l : Limits) (c d : Count) → Ok d ≡ noted_in l.room c → (write Node >> m) l c ≡ m l d
 write-made m l c d e = write_then m l c ∙ ap (λ r. next (counted r) (λ _. m) l) (sym e)
 
-pub write-refused : {A : Type 0} (m : Run A) (l : Limits) (c : Count) (why : Refusal) → Err why ≡ noted_in l.room c → (write Node >> m) l c ≡ Err why
+pub write-refused : {A : Type 0} (m : Run A) (l : Limits) (c : Count) (why : Stopped) → Err why ≡ noted_in l.room c → (write Node >> m) l c ≡ Err why
 write-refused m l c why e = write_then m l c ∙ ap (λ r. next (counted r) (λ _. m) l) (sym e)
 
 -- ---- the forms of a leaf, one unknown after another
@@ -98,7 +98,7 @@ leaf-all rows h forms inside f =
 pub noted-from : (room : ℕ) (c d : Count) → Ok d ≡ noted_in room c → (c.nodes < room) × (d ≡ noted c)
 noted-from room c d e = go (ltb c.nodes room) refl e
   where
-    go : (b : Bool) → ltb c.nodes room ≡ b → Ok d ≡ cond b (Ok (noted c)) (Err (WorkFull (met_at Node c))) → (c.nodes < room) × (d ≡ noted c)
+    go : (b : Bool) → ltb c.nodes room ≡ b → Ok d ≡ cond b (Ok (noted c)) (Err (stopped_at WorkFull Node c)) → (c.nodes < room) × (d ≡ noted c)
     go true is e = (ltb-true c.nodes room is, cc)
     go false is e = absurd (let z : ◌≡◌ {A = ℕ} 0 1 = cc in let no : ⊥ = omega arith in no)
 
@@ -110,7 +110,7 @@ keeps-more : (C : List ℤ) (Cs : List (List ℤ)) (l : Limits) (c d : Count) �
 unfolding keeps
 keeps-more C Cs l c d e = write-made (keeps Cs) l c d e
 
-keeps-refused : (C : List ℤ) (Cs : List (List ℤ)) (l : Limits) (c : Count) (why : Refusal) → Err why ≡ noted_in l.room c → keeps (C ∷ Cs) l c ≡ Err why
+keeps-refused : (C : List ℤ) (Cs : List (List ℤ)) (l : Limits) (c : Count) (why : Stopped) → Err why ≡ noted_in l.room c → keeps (C ∷ Cs) l c ≡ Err why
 unfolding keeps
 keeps-refused C Cs l c why e = write-refused (keeps Cs) l c why e
 
@@ -147,7 +147,7 @@ module _ (ctx : Context) (a : List TreeNode) (start : Count) (k : ℕ) (b : List
               ∙ sym (at_drop_more (λ xs. keeps xs (limits fuel (length a)) c) (in_force ctx) k [] here) ∙ i.left fuel;
         }
 
-    pub kept-refused : (why : Refusal) → Err why ≡ noted_in (length b) c → (fuel : ℕ) → keeps (in_force ctx) (limits fuel (length a)) start ≡ Err why
+    pub kept-refused : (why : Stopped) → Err why ≡ noted_in (length b) c → (fuel : ℕ) → keeps (in_force ctx) (limits fuel (length a)) start ≡ Err why
     kept-refused why e fuel =
         sym (i.left fuel) ∙ at_drop_more (λ xs. keeps xs (limits fuel (length a)) c) (in_force ctx) k [] here
         ∙ keeps-refused (get_or (in_force ctx) k []) (drop (k + 1) (in_force ctx)) (limits fuel (length a)) c why (e ∙ ap (λ m. noted_in m c) i.long)

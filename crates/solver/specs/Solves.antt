@@ -11,8 +11,10 @@ use Rattle.tableau.specs.declared.table.Row.{Row}
 use Rattle.tree.specs.declared.node.Node.{Node as TreeNode}
 use Rattle.tree.specs.declared.node.Node.TheVariants.{Head, Keep, None as Blank}
 use Rattle.tree.specs.Trees.{Tree, nodes}
+use Rattle.solver.specs.declared.count.Count.{Count}
+use Rattle.solver.specs.declared.count.Stopped.{Stopped}
 use Rattle.solver.specs.declared.run.Solved.{Solved}
-use Rattle.solver.specs.Runs.{Outcome, Run, fail, return, ◌>>=◌, ◌>>◌, write}
+use Rattle.solver.specs.Runs.{Outcome, Run, fail, return, ◌>>=◌, ◌>>◌, stopped, write}
 use Rattle.tableau.specs.Tables.{unit_rows}
 use Rattle.solver.specs.Rules.{Work, node, test}
 
@@ -75,10 +77,19 @@ begun s false = fail NoParameterPoint
 unfoldable pub run : Work → Run Tree
 run s = test s.parameters s.made s.context >>= begun s
 
+-- before the run nothing is counted
+abbrev pub nothing : Count
+nothing = record { steps = 0; nodes = 0 }
+
+-- the run that follows a check, where it passes
+abbrev pub run_if : {A : Type 0} → Result (Unit {0}) Refusal → Outcome A → Outcome A
+run_if (Ok _) o = o
+run_if (Err why) o = Err (stopped why nothing)
+
 -- what a solve answers, with the tree
 unfoldable pub solved : System → ℤ → ℕ → Outcome Tree
 solved S fuel room =
-    and_then (system_fits S) (and_then (fuel_fits fuel) (run (start S) (record { fuel = unsigned_abs fuel; room = room }) (record { steps = 0; nodes = 0 })))
+    run_if (system_fits S) (run_if (fuel_fits fuel) (run (start S) (record { fuel = unsigned_abs fuel; room = room }) nothing))
 
 -- ---- what the caller sees
 -- the tree as written: the head, the keeps, then the nodes as made
@@ -87,9 +98,14 @@ written S t = Head S.n S.p ∷ (map Keep (context_of S) ++ nodes t)
 
 abbrev pub solve_answer : Outcome Tree → Result Solved Refusal
 solve_answer (Ok v) = Ok (record { steps = v.1.steps; nodes = v.1.nodes })
-solve_answer (Err e) = Err e
+solve_answer (Err s) = Err s.why
+
+-- the same, where a refusal comes with its count
+abbrev pub counted_answer : Outcome Tree → Result Solved Stopped
+counted_answer (Ok v) = Ok (record { steps = v.1.steps; nodes = v.1.nodes })
+counted_answer (Err s) = Err s
 
 -- the tree with blank nodes after it, or all blank
 abbrev pub work_after : System → ℕ → Outcome Tree → List TreeNode
 work_after S room (Ok v) = written S v.0 ++ replicate (room - length (written S v.0)) Blank
-work_after S room (Err e) = replicate room Blank
+work_after S room (Err s) = replicate room Blank

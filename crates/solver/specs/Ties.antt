@@ -15,11 +15,12 @@ use Rattle.tableau.specs.Tables.{no_row, rest, top, unit_rows}
 use Rattle.tree.specs.declared.node.Node.{Node as TreeNode}
 use Rattle.solver.specs.declared.context.Context.{Context}
 use Rattle.solver.specs.declared.count.Count.{Count}
+use Rattle.solver.specs.declared.count.Stopped.{Stopped}
 use Rattle.solver.specs.declared.sign.Scan.{Scan as Found}
 use Rattle.solver.specs.declared.sign.Scan.TheVariants.{Negative, Unsure, Clear}
 use Rattle.solver.specs.declared.state.State.{State}
 use Rattle.solver.specs.Bounds.{in_force}
-use Rattle.solver.specs.Runs.{Limits, Outcome, met_at, noted, stepped}
+use Rattle.solver.specs.Runs.{Limits, Outcome, noted, stepped, stopped_at}
 use Rattle.solver.specs.Rules.{Scan, Work, below, clear, unsure}
 use Rattle.solver.specs.Solves.{fitted, form_of, numbers_fit, row_of, start, system_fits}
 use Rattle.base.specs.Refusals.{and_then}
@@ -47,13 +48,13 @@ work_of s =
     }
 
 -- what a move on the table answers: the work with the table after it, or a refusal
-abbrev pub moved : Table → Work → Result Count Refusal → Outcome Work
+abbrev pub moved : Table → Work → Result Count Stopped → Outcome Work
 moved t s (Ok c) = Ok (with_table t s, c)
 moved t s (Err e) = Err e
 
 -- a step, as a count alone
-abbrev pub ticked : Place → ℕ → Count → Result Count Refusal
-ticked place fuel c = cond (nat_lt c.steps fuel) (Ok (stepped c)) (Err (FuelSpent (met_at place c)))
+abbrev pub ticked : Place → ℕ → Count → Result Count Stopped
+ticked place fuel c = cond (nat_lt c.steps fuel) (Ok (stepped c)) (Err (stopped_at FuelSpent place c))
 
 -- the work after a cut: its context and new parameters, and one cut more
 abbrev pub after_cut : Work → List (List ℤ) → ℕ → Work
@@ -64,7 +65,7 @@ abbrev pub first_negative : ℕ → List Row → Option ℕ
 first_negative k rs = position_from (λ r. int_lt (at r.form 9) (pos 0)) k rs
 
 -- what a cut in a test answers
-abbrev pub tested : Table → ℕ → Result Count Refusal → Outcome Work
+abbrev pub tested : Table → ℕ → Result Count Stopped → Outcome Work
 tested t cuts (Ok c) = Ok (test_of t cuts, c)
 tested t cuts (Err e) = Err e
 
@@ -80,7 +81,7 @@ scan_at rows (Negative h) = below (slice_index_or rows h no_row)
 scan_at rows (Unsure h) = unsure (slice_index_or rows h no_row)
 scan_at rows Clear = clear
 
-abbrev pub scanned_at : List Row → Result (Found × Count) Refusal → Outcome Scan
+abbrev pub scanned_at : List Row → Result (Found × Count) Stopped → Outcome Scan
 scanned_at rows (Ok v) = Ok (scan_at rows v.0, v.1)
 scanned_at rows (Err e) = Err e
 
@@ -96,16 +97,16 @@ abbrev pub Wrote : List TreeNode → ℕ → List TreeNode → List TreeNode →
 Wrote before from ns after = after ≡ take from before ++ (ns ++ drop (from + length ns) before)
 
 -- the same where the write was made; refused, nothing is written
-abbrev pub WroteIf : List TreeNode → ℕ → List TreeNode → List TreeNode → Result Count Refusal → Type 0
+abbrev pub WroteIf : List TreeNode → ℕ → List TreeNode → List TreeNode → Result Count Stopped → Type 0
 WroteIf before from ns after (Ok _) = Wrote before from ns after
 WroteIf before from ns after (Err _) = after ≡ before
 
 -- a node, as a count alone
-abbrev pub noted_in : ℕ → Count → Result Count Refusal
-noted_in room c = cond (nat_lt c.nodes room) (Ok (noted c)) (Err (WorkFull (met_at Node c)))
+abbrev pub noted_in : ℕ → Count → Result Count Stopped
+noted_in room c = cond (nat_lt c.nodes room) (Ok (noted c)) (Err (stopped_at WorkFull Node c))
 
 -- what a run that only counts answers
-abbrev pub counted : Result Count Refusal → Outcome (Unit {0})
+abbrev pub counted : Result Count Stopped → Outcome (Unit {0})
 counted (Ok c) = Ok (tt, c)
 counted (Err e) = Err e
 

@@ -10,7 +10,7 @@ ghost use Rattle.solver.specs.Ends.{Planted, splitting};
 ghost use Rattle.solver.specs.Rules.{node, where_form};
 ghost use Rattle.solver.specs.Ties.{limits, solution_of, work_of};
 
-use crate::count::{Count, barred, tick};
+use crate::count::{Count, Stopped, barred, tick};
 use crate::settle::{End, narrow, settle, write};
 use crate::state::State;
 use base::divisor::Divisor;
@@ -48,7 +48,7 @@ fn leaf_of(t: &Table) -> Node
 
 /// Inner: the tree of a state, written into the work table.
 #[cycle(node_split)]
-pub fn node(state: &mut State, fuel: u32, work: &mut [Node], start: Count) -> Result<Count, Refusal>
+pub fn node(state: &mut State, fuel: u32, work: &mut [Node], start: Count) -> Result<Count, Stopped>
     requires ready { StateReady state.old }
     requires within { start.steps ≤ fuel }
     requires fuel { fuel ≤ 100000 }
@@ -72,7 +72,7 @@ fn split(
     fuel: u32,
     work: &mut [Node],
     start: Count,
-) -> Result<Count, Refusal>
+) -> Result<Count, Stopped>
     requires ready { StateReady state.now }
     requires row { h < state.now.table.count }
     requires within { start.steps ≤ fuel }
@@ -88,12 +88,12 @@ fn split(
     let count = write(work, Node::Split(narrow(&form)), count)?;
     let mut first = *state;
     if !branch(&mut first, &form) {
-        return Err(Refusal::Range(count.met(Place::Node)));
+        return Err(count.out_of_range(Place::Node));
     }
     let count = node(&mut first, fuel, work, count)?;
     let mut second = *state;
     if !branch(&mut second, &opposite(&form)) {
-        return Err(Refusal::Range(count.met(Place::Node)));
+        return Err(count.out_of_range(Place::Node));
     }
     node(&mut second, fuel, work, count)
 }

@@ -11,7 +11,7 @@ ghost use Rattle.solver.specs.Rules.{Work, cut, settle, solving};
 ghost use Rattle.solver.specs.Runs.{Run, next};
 ghost use Rattle.solver.specs.Ties.{WroteIf, limits, noted_in, work_of};
 
-use crate::count::{Count, barred, tick};
+use crate::count::{Count, Stopped, barred, tick};
 use crate::sign::{Scan, scan_rows};
 use crate::state::State;
 use crate::test::CUTS;
@@ -43,14 +43,14 @@ pub fn narrow(form: &Form) -> NodeForm
 }
 
 /// Inner: one node more in the work table, where there is room.
-pub fn write(work: &mut [Node], node: Node, count: Count) -> Result<Count, Refusal>
+pub fn write(work: &mut [Node], node: Node, count: Count) -> Result<Count, Stopped>
     ensures value { result ≡ noted_in (length work.old) count }
     ensures left { WroteIf work.old count.nodes (node ∷ []) work.new result }
     ensures steps { IfOk result (λ c. c.steps ≡ count.steps) }
 {
     let at = count.nodes;
     if at >= work.len() {
-        return Err(Refusal::WorkFull(count.met(Place::Node)));
+        return Err(count.stop(Refusal::WorkFull(count.met(Place::Node))));
     }
     work[at] = node;
     Ok(Count {
@@ -65,7 +65,7 @@ fn make_parameter(
     by: &Cut,
     work: &mut [Node],
     count: Count,
-) -> Result<Count, Refusal>
+) -> Result<Count, Stopped>
     requires ready { StateReady state.old }
     requires new { state.old.context.made < 5 }
     ensures value { NewMade state.old (numbers by.now) work.old count state.new work.new result }
@@ -87,14 +87,14 @@ fn make_parameter(
     let floor = by.lower(q);
     let ceiling = by.upper(q);
     if !state.context.join(&floor) || !state.context.join(&ceiling) {
-        return Err(Refusal::Range(count.met(Place::Node)));
+        return Err(count.out_of_range(Place::Node));
     }
     state.context.made += 1;
     Ok(count)
 }
 
 /// The cut of a constant T.
-fn cut_constant(state: &mut State, x: &Cut, fuel: u32, count: Count) -> Result<Count, Refusal>
+fn cut_constant(state: &mut State, x: &Cut, fuel: u32, count: Count) -> Result<Count, Stopped>
     requires ready { StateReady state.old }
     requires few { state.old.cuts < 24 }
     requires constant { is_constant (numbers x.now) ≡ true }
@@ -115,7 +115,7 @@ fn cut_parameter(
     fuel: u32,
     work: &mut [Node],
     count: Count,
-) -> Result<Count, Refusal>
+) -> Result<Count, Stopped>
     requires ready { StateReady state.old }
     requires few { state.old.cuts < 24 }
     requires new { state.old.context.made < 5 }
@@ -140,7 +140,7 @@ fn cut_row(
     fuel: u32,
     work: &mut [Node],
     count: Count,
-) -> Result<Count, Refusal>
+) -> Result<Count, Stopped>
     requires ready { StateReady state.old }
     requires row { h < state.old.table.unknowns }
     ensures value { (news : News) × Noted work.old count news work.new result × ((again : Work → Run Tree) → cut AtNode again (work_of state.old) (cut_of (slice_index_or state.old.table.rows h no_row)) (limits fuel (length work.old)) count ≡ below_all news (next (worked state.new result) again (limits fuel (length work.old)))) }
@@ -167,7 +167,7 @@ pub fn settle(
     fuel: u32,
     work: &mut [Node],
     start: Count,
-) -> Result<(End, Count), Refusal>
+) -> Result<(End, Count), Stopped>
     requires ready { StateReady state.old }
     requires within { start.steps ≤ fuel }
     requires fuel { fuel ≤ 100000 }

@@ -7,10 +7,9 @@ ghost use Rattle.solver.specs.Rules.{Work, none_above, none_below, scan, sign_in
 ghost use Rattle.solver.specs.Ties.{KnownAs, first_unsure, limits, scanned_at};
 
 use crate::context::Context;
-use crate::count::Count;
+use crate::count::{Count, Stopped};
 use crate::test::test_with;
 use base::form::{CONSTANT, Form, opposite};
-use base::refusal::Refusal;
 use tableau::table::Table;
 
 /// The sign of a form at the settings that meet the context.
@@ -56,7 +55,7 @@ pub fn sign_of(
     ctx: &mut Context,
     fuel: u32,
     count: Count,
-) -> Result<(Sign, Count), Refusal>
+) -> Result<(Sign, Count), Stopped>
     requires small { AllWithin (2 ^ 30) form.now }
     requires room { ctx.old.count < 31 }
     requires within { count.steps ≤ fuel }
@@ -91,7 +90,7 @@ pub fn scan_rows(
     ctx: &mut Context,
     fuel: u32,
     start: Count,
-) -> Result<(Scan, Count), Refusal>
+) -> Result<(Scan, Count), Stopped>
     requires table { Ready t.now }
     requires room { ctx.old.count < 31 }
     requires within { start.steps ≤ fuel }

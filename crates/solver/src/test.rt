@@ -11,7 +11,7 @@ ghost use Rattle.solver.specs.Runs.{Run, next};
 ghost use Rattle.solver.specs.Ties.{KnownAs, first_negative, limits, test_of, tested};
 
 use crate::context::{Added, Context};
-use crate::count::{Count, barred};
+use crate::count::{Count, Stopped, barred};
 use crate::start::test_table;
 use crate::turn::{add_cut, turn};
 use base::form::{CONSTANT, Form};
@@ -46,7 +46,7 @@ fn cut_plain(
     cuts: usize,
     fuel: u32,
     count: Count,
-) -> Result<Count, Refusal>
+) -> Result<Count, Stopped>
     requires ready { Ready t.old }
     requires row { h < t.old.unknowns }
     requires room { t.old.count ≤ 40 + cuts }
@@ -68,7 +68,7 @@ fn cut_plain(
 
 // The answer is yes or no, beside the count that each result carries.
 /// Inner: whether some setting of the parameters and the new ones so far meets the context.
-pub fn test(ctx: &Context, fuel: u32, start: Count) -> Result<(bool, Count), Refusal>
+pub fn test(ctx: &Context, fuel: u32, start: Count) -> Result<(bool, Count), Stopped>
     requires within { start.steps ≤ fuel }
     requires fuel { fuel ≤ 100000 }
     ensures value { (n : ℕ) → test ctx.now.parameters ctx.now.made (in_force ctx.now) (limits fuel n) start ≡ result }
@@ -101,7 +101,7 @@ pub fn test_with(
     form: &Form,
     fuel: u32,
     count: Count,
-) -> Result<(bool, Count), Refusal>
+) -> Result<(bool, Count), Stopped>
     requires room { ctx.old.count < 31 }
     requires within { count.steps ≤ fuel }
     requires fuel { fuel ≤ 100000 }
@@ -112,7 +112,7 @@ pub fn test_with(
 {
     let rows = ctx.count;
     if !ctx.join(form) {
-        return Err(Refusal::Range(count.met(Place::Test)));
+        return Err(count.out_of_range(Place::Test));
     }
     let guard = Added { ctx, count: rows };
     test(guard.ctx, fuel, count)

@@ -9,9 +9,9 @@ ghost use Rattle.solver.specs.Rules.{Work, cut, turn, with_row};
 ghost use Rattle.solver.specs.Runs.{Run, next};
 ghost use Rattle.solver.specs.Ties.{after_cut, limits, moved, with_table};
 
-use crate::count::{Count, tick};
+use crate::count::{Count, Stopped, tick};
 use crate::start::push_row;
-use base::refusal::{Place, Refusal};
+use base::refusal::Place;
 use tableau::column::pivot_place;
 use tableau::cut::Cut;
 use tableau::pivot::pivot;
@@ -25,7 +25,7 @@ pub fn turn(
     place: Place,
     fuel: u32,
     count: Count,
-) -> Result<Count, Refusal>
+) -> Result<Count, Stopped>
     requires ready { Ready t.old }
     requires there { PivotAt t.old spot }
     ensures value { (s : Work) (room : ℕ) → turn place (slice_index_or t.old.rows spot.0 no_row) spot.1 (with_table t.old s) (limits fuel room) count ≡ moved t.new s result }
@@ -37,7 +37,7 @@ pub fn turn(
 {
     let next = tick(place, fuel, count)?;
     if !pivot(t, spot) {
-        return Err(Refusal::Range(next.met(place)));
+        return Err(next.out_of_range(place));
     }
     Ok(next)
 }
@@ -49,7 +49,7 @@ pub fn add_row(
     place: Place,
     fuel: u32,
     count: Count,
-) -> Result<Count, Refusal>
+) -> Result<Count, Stopped>
     requires ready { Ready t.old }
     requires room { t.old.count < 64 }
     requires sound { Sound row }
@@ -62,7 +62,7 @@ pub fn add_row(
     ensures stepped { IfOk result (Stepped fuel count) }
 {
     if !fits(&row) {
-        return Err(Refusal::Range(count.met(place)));
+        return Err(count.out_of_range(place));
     }
     let i = t.count;
     push_row(t, row);
@@ -79,7 +79,7 @@ pub fn add_cut(
     place: Place,
     fuel: u32,
     count: Count,
-) -> Result<Count, Refusal>
+) -> Result<Count, Stopped>
     requires ready { Ready t.old }
     requires room { t.old.count < 64 }
     ensures value { (again : Work → Run Tree) (s : Work) (n : ℕ) → s.cuts < 24 → is_constant (numbers x.now) ≡ true → cut place again (with_table t.old s) (numbers x.now) (limits fuel n) count ≡ next (moved t.new (after_cut s s.context s.made) result) again (limits fuel n) }

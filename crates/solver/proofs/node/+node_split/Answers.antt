@@ -1,7 +1,6 @@
 use Rattle.std.proofs.Common.{◌≡◌, [], ◌∷◌, map, length, get_or, Ok, Err, sym, refl, ap, ◌∙◌, subst, arith, rules}
 use Rattle.std.proofs.lemmas.Result.{err_from_is_err_and, IfOk-from_err}
 use Rattle.base.specs.declared.refusal.Place.TheVariants.{Node}
-use Rattle.base.specs.declared.refusal.Refusal.TheVariants.{Range}
 use Rattle.base.specs.Forms.{opposite}
 use Rattle.base.specs.Numbers.{within}
 use Rattle.tableau.specs.Tables.{no_row, top}
@@ -88,7 +87,7 @@ split-returns-then-state-eq0 t c =
     let l = limits c.args.fuel (length w) in
     record {
       value = split-barred x.left (work_of x) C c.args.fuel (length w) c.args.start (omega arith)
-          ∙ ap Err (barred-is _ _ _ _ _ c.barred.ensures.value);
+          ∙ ap Err (barred-is _ _ _ _ _ _ c.barred.ensures.value c.barred.ensures.count);
       stepped = tt;
     }
 
@@ -137,7 +136,7 @@ split-returns-then-not-branch t c =
     let b = c.if-not-branch.ensures in
     let m = c.branch-first.new.state.left in
     record {
-      value = ap (λ n. splitting n (work_of x) C l c.args.start) b.once ∙ split-out m (work_of x) C c.args.fuel (length w) c.args.start d ticks f wrote (sym b.value) ∙ ap (λ q. Err (Range q)) (sym c.met.ensures);
+      value = ap (λ n. splitting n (work_of x) C l c.args.start) b.once ∙ split-out m (work_of x) C c.args.fuel (length w) c.args.start d ticks f wrote (sym b.value) ∙ ap Err (sym c.out_of_range.ensures);
       stepped = tt;
     }
 
@@ -188,7 +187,7 @@ split-returns-then-not-branch-2 t c =
     let opp = c.opposite.ensures in
     record {
       value = ap (λ n. splitting n (work_of x) C l c.args.start) b.once
-          ∙ split-out-2 m (work_of x) C c.args.fuel (length w) c.args.start d ticks f wrote (sym b.value) P.0 k P.1 (ap within (sym opp) ∙ sym b₂.value) ∙ ap (λ q. Err (Range q)) (sym c.met-then-not-branch-2.ensures);
+          ∙ split-out-2 m (work_of x) C c.args.fuel (length w) c.args.start d ticks f wrote (sym b.value) P.0 k P.1 (ap within (sym opp) ∙ sym b₂.value) ∙ ap Err (sym c.out_of_range-then-not-branch-2.ensures);
       stepped = tt;
     }
 

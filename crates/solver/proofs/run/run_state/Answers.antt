@@ -1,11 +1,10 @@
 use Rattle.std.proofs.Common.{◌≡◌, ◌≤◌, ◌∷◌, map, length, Ok, Err, sym, ap, ◌∙◌, subst, arith, rules}
 use Rattle.std.proofs.lemmas.Result.{err_from_is_err_and, IfOk-from_err}
 use Rattle.tree.specs.declared.node.Node.TheVariants.{Head, Keep}
-use Rattle.solver.specs.declared.count.Count.{Count}
 use Rattle.solver.specs.Bounds.{in_force}
 use Rattle.solver.specs.Ends.{Planted, Rooted}
 use Rattle.solver.specs.Rules.{node}
-use Rattle.solver.specs.Solves.{keeps, run}
+use Rattle.solver.specs.Solves.{keeps, nothing, run}
 use Rattle.solver.specs.Ties.{counted, limits, work_of}
 use Rattle.solver.proofs.Running.{rooted, run-broken, run-full, run-keeps-full, run-kept, run-unmet}
 use Rattle.solver.proofs.Writing.{noted-from}
@@ -16,7 +15,7 @@ returns-in_err-met c =
     let x = c.args.state.now in
     let w = c.args.work.now in
     let l = limits c.args.fuel (length w) in
-    let zero : Count = record { steps = 0; nodes = 0 } in
+    let zero = nothing in
     let p = err_from_is_err_and c.from_residual.result c.from_residual.ensures.1 in
     let e = p.1 ∙ ap Err p.2 in
     record {
@@ -31,7 +30,7 @@ returns-then-not-met c =
     let w = c.args.work.now in
     let k = c.in_ok-met.count in
     record {
-      value = run-unmet (work_of x) (limits c.args.fuel (length w)) (record { steps = 0; nodes = 0 }) k (c.test.ensures.value (length w) ∙ c.in_ok-met.was ∙ ap (λ b. Ok (b, k)) c.if-not-met.true);
+      value = run-unmet (work_of x) (limits c.args.fuel (length w)) nothing k (c.test.ensures.value (length w) ∙ c.in_ok-met.was ∙ ap (λ b. Ok (b, k)) c.if-not-met.true) ∙ ap Err (sym c.stop.ensures);
       stepped = tt;
     }
 
@@ -40,7 +39,7 @@ returns-in_err-count c =
     let x = c.args.state.now in
     let w = c.args.work.now in
     let l = limits c.args.fuel (length w) in
-    let zero : Count = record { steps = 0; nodes = 0 } in
+    let zero = nothing in
     let d = c.in_ok-met.count in
     let met = c.test.ensures.value (length w) ∙ c.in_ok-met.was ∙ ap (λ b. Ok (b, d)) c.if-not-met.false in
     let p = err_from_is_err_and c.from_residual-in_err-count.result c.from_residual-in_err-count.ensures.1 in
@@ -56,7 +55,7 @@ returns-in_err-count-2 c =
     let x = c.args.state.now in
     let w = c.args.work.now in
     let l = limits c.args.fuel (length w) in
-    let zero : Count = record { steps = 0; nodes = 0 } in
+    let zero = nothing in
     let d = c.in_ok-met.count in
     let met = c.test.ensures.value (length w) ∙ c.in_ok-met.was ∙ ap (λ b. Ok (b, d)) c.if-not-met.false in
     let f = c.in_ok-count.count in
@@ -75,7 +74,7 @@ returns c =
     let x = c.args.state.now in
     let w = c.args.work.now in
     let l = limits c.args.fuel (length w) in
-    let zero : Count = record { steps = 0; nodes = 0 } in
+    let zero = nothing in
     let d = c.in_ok-met.count in
     let met = c.test.ensures.value (length w) ∙ c.in_ok-met.was ∙ ap (λ b. Ok (b, d)) c.if-not-met.false in
     let f = c.in_ok-count.count in

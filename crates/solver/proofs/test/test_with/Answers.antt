@@ -1,5 +1,4 @@
 use Rattle.std.proofs.Common.{take, Err, sym, ap, ◌∙◌, rules}
-use Rattle.base.specs.declared.refusal.Refusal.TheVariants.{Range}
 use Rattle.solver.specs.Bounds.{in_force}
 use Rattle.solver.specs.Ties.{limits}
 use Rattle.solver.proofs.Testing.{with-row-in, with-row-out}
@@ -9,7 +8,7 @@ pub returns-then-not-join : goal.returns-then-not-join
 returns-then-not-join c =
     let j = c.if-not-join.ensures in
     record {
-      value = λ s n k. with-row-out s c.args.form.now (limits c.args.fuel n) c.args.count (sym j.answer) ∙ ap (λ m. Err (Range m)) (sym c.met.ensures);
+      value = λ s n k. with-row-out s c.args.form.now (limits c.args.fuel n) c.args.count (sym j.answer) ∙ ap Err (sym c.out_of_range.ensures);
       kept = record { count = j.counts.0; rows = j.rows; parameters = j.counts.1; made = j.counts.2 };
       nodes = tt;
       stepped = tt;

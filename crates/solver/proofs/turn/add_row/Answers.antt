@@ -1,5 +1,4 @@
 use Rattle.std.proofs.Common.{◌≡◌, get_or, Some, None, Err, sym, refl, ap, ◌∙◌, subst, rules}
-use Rattle.base.specs.declared.refusal.Refusal.TheVariants.{Range}
 use Rattle.tableau.specs.Columns.{entering}
 use Rattle.tableau.specs.Tables.{no_row, top}
 use Rattle.solver.specs.Bounds.{AllConst}
@@ -12,7 +11,7 @@ use Rattle.solver.proofs.turn.add_row.Goals as goal
 pub returns-then-not-fits : goal.returns-then-not-fits
 returns-then-not-fits c =
     record {
-      value = λ again s context n room. row-broken c.args.place again c.args.t.now s context n c.args.row c.args.fuel room c.args.count (sym c.if-not-fits.ensures) ∙ ap (λ m. Err (Range m)) (sym c.met.ensures);
+      value = λ again s context n room. row-broken c.args.place again c.args.t.now s context n c.args.row c.args.fuel room c.args.count (sym c.if-not-fits.ensures) ∙ ap Err (sym c.out_of_range.ensures);
       constants = λ _ _. tt;
       ready = tt;
       counts = tt;

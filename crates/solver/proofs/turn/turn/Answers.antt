@@ -1,6 +1,5 @@
 use Rattle.std.proofs.Common.{get_or, Err, sym, ap, ◌∙◌, subst, rules}
 use Rattle.std.proofs.lemmas.Result.{err_from_is_err_and, IfOk-from_err}
-use Rattle.base.specs.declared.refusal.Refusal.TheVariants.{Range}
 use Rattle.tableau.specs.Tables.{no_row}
 use Rattle.solver.specs.Bounds.{AllConst}
 use Rattle.solver.specs.Ties.{moved}
@@ -27,7 +26,7 @@ returns-then-not-pivot c =
     let t = c.args.t.now in
     let q = c.pivot.ensures in
     record {
-      value = λ s room. turn-broken c.args.place (get_or t.rows c.args.spot.0 no_row) c.args.spot.1 t s c.args.fuel room c.args.count c.pivot.new.t c.requires.ready.inside q.counts q.rows c.in_ok-next.next (sym c.in_ok-next.ensures.value) (sym c.if-not-pivot.ensures.answer) ∙ ap (λ m. Err (Range m)) (sym c.met.ensures);
+      value = λ s room. turn-broken c.args.place (get_or t.rows c.args.spot.0 no_row) c.args.spot.1 t s c.args.fuel room c.args.count c.pivot.new.t c.requires.ready.inside q.counts q.rows c.in_ok-next.next (sym c.in_ok-next.ensures.value) (sym c.if-not-pivot.ensures.answer) ∙ ap Err (sym c.out_of_range.ensures);
       constants = λ _. tt;
       ready = tt;
       counts = q.counts;

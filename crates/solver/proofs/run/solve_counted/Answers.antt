@@ -1,10 +1,10 @@
 use Rattle.std.proofs.Common.{◌≡◌, length, Ok, sym, ap, ◌∙◌, subst, w64, to_z, of_z, rules}
 use Rattle.std.proofs.lemmas.Int.{to_z-of_z}
 use Rattle.tree.specs.declared.node.Node.TheVariants.{None as Blank}
-use Rattle.solver.specs.Solves.{solve_answer, solved, work_after, written}
+use Rattle.solver.specs.Solves.{counted_answer, solved, work_after, written}
 use Rattle.solver.specs.Ties.{Wrote}
 use Rattle.solver.proofs.Running.{root-left}
-use Rattle.solver.proofs.run.solve_into.Goals as goal
+use Rattle.solver.proofs.run.solve_counted.Goals as goal
 
 pub returns-in-Ok : goal.returns-in-Ok
 returns-in-Ok g c =
@@ -18,6 +18,6 @@ returns-in-Ok g c =
     let e : solved S c.args.fuel (length w) ≡ Ok (q.0, c.in-Ok.count) =
     ap (λ f. solved S f (length w)) (sym fit) ∙ ap (λ n. solved S (to_z w64 (of_z w64 c.args.fuel)) n) (sym long) ∙ q.1 in
     record {
-      answer = sym (ap solve_answer e);
+      answer = sym (ap counted_answer e);
       left = root-left Blank (length w) (written S q.0) z (subst (λ a. Wrote a 0 (written S q.0) z) c.blank.ensures.left q.2) ∙ sym (ap (work_after S (length w)) e);
     }
