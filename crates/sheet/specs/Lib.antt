@@ -1,0 +1,5 @@
+pub mod Sheets
+pub mod Events
+pub mod Arrangements
+pub mod Laws
+pub mod Logs

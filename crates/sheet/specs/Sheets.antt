@@ -1,0 +1,38 @@
+-- What each call of a sheet answers and leaves, over what its store means.
+use Rattle.std.specs.Prelude.{ℕ, false, [], ℤ, Ok, Err, Result}
+use Rattle.base.specs.declared.refusal.Refusal.{Refusal}
+use Rattle.source.specs.Systems.{System}
+use Rattle.store.specs.Stores.{Meaning, holding, install_answer}
+use Rattle.tree.specs.Trees.{Tree}
+use Rattle.solver.specs.declared.count.Count.{Count}
+use Rattle.solver.specs.declared.count.Stopped.{Stopped}
+use Rattle.solver.specs.declared.run.Solved.{Solved}
+use Rattle.solver.specs.Runs.{Outcome, stopped}
+use Rattle.solver.specs.Solves.{solved, written}
+
+-- a tree that the store refuses to list is refused so, after the steps of its run
+abbrev pub after_install : Result (Unit {0}) Refusal → Tree × Count → Outcome Tree
+after_install (Ok _) v = Ok v
+after_install (Err e) v = Err (stopped e v.1)
+
+abbrev pub held : Meaning → System → Outcome Tree → Outcome Tree
+held m S (Ok v) = after_install (install_answer m (written S v.0)) v
+held m S (Err s) = Err s
+
+-- what a solve comes to on a sheet, with the tree
+abbrev pub solved_here : Meaning → System → ℤ → ℕ → Outcome Tree
+solved_here m S fuel room = held m S (solved S fuel room)
+
+-- the answer of a solve without the count that a refusal comes with
+abbrev pub uncounted : Result Solved Stopped → Result Solved Refusal
+uncounted (Ok v) = Ok v
+uncounted (Err s) = Err s.why
+
+-- an accepted tree takes the place of the one before
+abbrev pub replaced : Meaning → System → Outcome Tree → Meaning
+replaced m S (Ok v) = holding m (written S v.0) false
+replaced m S (Err s) = m
+
+-- closed, and no node listed: so a sheet is made, and so a wipe leaves it
+abbrev pub emptied : Meaning → Meaning
+emptied m = holding m [] false

@@ -1,0 +1,169 @@
+//! The sheet.
+ghost use Rattle.std.specs.Prelude.{◌≡◌, [], ◌∷◌, length, replicate};
+ghost use Rattle.tree.specs.declared.node.Node.TheVariants.{None as Blank};
+ghost use Rattle.store.specs.Stores.{node_at};
+ghost use Rattle.tree.specs.Finds.{found_in, left_of, said_of};
+ghost use Rattle.solver.specs.Runs.{stopped};
+ghost use Rattle.solver.specs.Solves.{counted_answer, solve_answer, work_after};
+ghost use Rattle.sheet.specs.Sheets.{emptied, replaced, solved_here, uncounted};
+ghost use Rattle.sheet.specs.Events.{find as find_made, solve as solve_made, wipe as wipe_made};
+ghost use Rattle.sheet.specs.Arrangements.{LeadsTo, Reached};
+ghost use Rattle.sheet.specs.Laws.{LeadsOn, NextFind, NextSolve};
+
+use base::refusal::Refusal;
+use solver::count::{Count, Stopped};
+use solver::run::{Solved, solve_counted};
+use source::source::Source;
+use std::marker::Model;
+use store::ask;
+use store::install::install;
+use store::store::Store;
+use tree::node::Node;
+use tree::walk::Found;
+
+/// Empties a store and closes it.
+fn empty<T: Store>(store: &mut T)
+    ensures left { T.meaning store.new ≡ emptied (T.meaning store.old) }
+{
+    let draft = store.begin();
+    let _ = store.scrap(draft);
+}
+
+/// Blanks all nodes.
+fn blank(work: &mut [Node])
+    ensures left { work.new ≡ replicate (length work.old) Blank }
+{
+    work.fill(Node::None);
+}
+
+/// A refusal that comes after the run of an accepted solve.
+fn after_run(solved: Solved, why: Refusal) -> Stopped
+    ensures { result ≡ stopped why (record { steps = solved.steps; nodes = solved.nodes }) }
+{
+    let count = Count {
+        steps: solved.steps,
+        nodes: solved.nodes,
+    };
+    count.stop(why)
+}
+
+/// Solves the source's system, and puts the tree into the store if it fits.
+fn solve_on<T: Store, S: Source>(
+    store: &mut T,
+    source: &S,
+    work: &mut [Node],
+    fuel: i64,
+) -> Result<Solved, Stopped>
+    ensures answer { result ≡ counted_answer (solved_here (T.meaning store.old) (S.meaning source.now) fuel (length work.old)) }
+    ensures work { work.new ≡ work_after (S.meaning source.now) (length work.old) (solved_here (T.meaning store.old) (S.meaning source.now) fuel (length work.old)) }
+    ensures left { T.meaning store.new ≡ replaced (T.meaning store.old) (S.meaning source.now) (solved_here (T.meaning store.old) (S.meaning source.now) fuel (length work.old)) }
+{
+    let solved = solve_counted(source, work, fuel)?;
+    match install(store, work, solved.nodes) {
+        Ok(()) => Ok(solved),
+        Err(refusal) => {
+            blank(work);
+            Err(after_run(solved, refusal))
+        }
+    }
+}
+
+/// One store, which nothing else reaches. The nodes that it lists are the sheet's tree; to its callers a sheet is what
+/// its store means.
+#[derive(Drop)]
+pub struct Sheet<T: Store> {
+    store: T,
+}
+
+impl<T: Store> Model for Sheet<T> {
+    ghost use Rattle.std.specs.Prelude.{ℕ};
+    ghost use Rattle.store.specs.Stores.{Meaning};
+    ghost use Rattle.sheet.specs.Arrangements.{Reached};
+
+    ghost Value = { Meaning };
+
+    ghost view = { λ s. T.meaning s.store };
+
+    ghost invariant = { λ s. ∥ Reached (T.meaning s.store) ∥₁ };
+}
+
+impl<T: Store> Sheet<T> {
+    /// A sheet over this store, which is emptied.
+    pub fn new(store: T) -> Self
+        ensures made { result ≡ emptied (T.meaning store) }
+        ensures law { LeadsTo [] result }
+    {
+        let mut store = store;
+        empty(&mut store);
+        Sheet { store }
+    }
+
+    /// Solves the source's system. A tree that fits the store's capacity replaces the one before, and stands in the work
+    /// table with blank nodes after it; refused, the tree stays, and the work table is all blank.
+    pub fn solve<S: Source>(
+        &mut self,
+        source: &S,
+        work: &mut [Node],
+        fuel: i64,
+    ) -> Result<Solved, Refusal>
+        ensures answer { result ≡ solve_answer (solved_here self.old (S.meaning source.now) fuel (length work.old)) }
+        ensures work { work.new ≡ work_after (S.meaning source.now) (length work.old) (solved_here self.old (S.meaning source.now) fuel (length work.old)) }
+        ensures left { self.new ≡ replaced self.old (S.meaning source.now) (solved_here self.old (S.meaning source.now) fuel (length work.old)) }
+        ensures right { NextSolve self.old (record { system = S.meaning source.now; room = length work.old; fuel = fuel; answer = result; work = work.new }) }
+        ensures law { LeadsOn self.old (solve_made (record { system = S.meaning source.now; room = length work.old; fuel = fuel; answer = result; work = work.new }) ∷ []) self.new }
+    {
+        self.solve_counted(source, work, fuel).map_err(|stopped| stopped.why)
+    }
+
+    /// As `solve`; a refusal comes with the steps and nodes counted by then.
+    pub fn solve_counted<S: Source>(
+        &mut self,
+        source: &S,
+        work: &mut [Node],
+        fuel: i64,
+    ) -> Result<Solved, Stopped>
+        ensures answer { result ≡ counted_answer (solved_here self.old (S.meaning source.now) fuel (length work.old)) }
+        ensures work { work.new ≡ work_after (S.meaning source.now) (length work.old) (solved_here self.old (S.meaning source.now) fuel (length work.old)) }
+        ensures left { self.new ≡ replaced self.old (S.meaning source.now) (solved_here self.old (S.meaning source.now) fuel (length work.old)) }
+        ensures right { NextSolve self.old (record { system = S.meaning source.now; room = length work.old; fuel = fuel; answer = uncounted result; work = work.new }) }
+        ensures law { LeadsOn self.old (solve_made (record { system = S.meaning source.now; room = length work.old; fuel = fuel; answer = uncounted result; work = work.new }) ∷ []) self.new }
+    {
+        solve_on(&mut self.store, source, work, fuel)
+    }
+
+    /// Asks the sheet's tree at a parameter point: the n numbers of the point are left in the place, zeros after them.
+    pub fn find(&self, point: &[i64], place: &mut [i64; 6]) -> Result<Found, Refusal>
+        ensures answer { result ≡ said_of (found_in self.now.nodes point.now) }
+        ensures left { place.new ≡ left_of (found_in self.now.nodes point.now) }
+        ensures reached { ∥ Reached self.now ∥₁ }
+        ensures right { NextFind self.now (record { point = point.now; answer = result; place = place.new }) }
+        ensures law { LeadsOn self.now (find_made (record { point = point.now; answer = result; place = place.new }) ∷ []) self.now }
+    {
+        ask::find(&self.store, point, place)
+    }
+
+    /// Empties the store, and answers how many nodes went.
+    pub fn wipe(&mut self) -> usize
+        ensures answer { result ≡ length self.old.nodes }
+        ensures left { self.new ≡ emptied self.old }
+        ensures law { LeadsOn self.old (wipe_made result ∷ []) self.new }
+    {
+        let count = self.store.count();
+        empty(&mut self.store);
+        count
+    }
+
+    /// How many nodes the sheet's tree has.
+    pub fn count(&self) -> usize
+        ensures answer { result ≡ length self.now.nodes }
+    {
+        self.store.count()
+    }
+
+    /// A node of the sheet's tree by its place, from 0; the node none past them.
+    pub fn node(&self, place: usize) -> Node
+        ensures answer { result ≡ node_at self.now place }
+    {
+        self.store.node(place)
+    }
+}
