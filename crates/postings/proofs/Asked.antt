@@ -1,11 +1,13 @@
 -- A question for the latest posting, where the nest's system stands.
-use Rattle.std.proofs.Common.{◌≡◌, ℕ, zero, suc, ◌≤◌, ◌<◌, Bool, true, false, eqb, leb, List, [], ◌∷◌, map, length, ℤ, pos, get_or, Some, None, Ok, Err, Option, Result, IsOk, sym, refl, ap, ap₂, ◌∙◌, subst, inl, inr, arith}
+use Rattle.std.proofs.Common.{◌≡◌, ℕ, zero, suc, ◌≤◌, ◌<◌, Bool, true, false, eqb, leb, List, [], ◌∷◌, map, length, ℤ, pos, Some, None, Ok, Err, Option, Result, IsOk, sym, refl, ap, ap₂, ◌∙◌, subst, inl, inr, arith}
 use borrow.Author.Differences.{ints}
 use Rattle.std.specs.Prelude.{slice_index}
 use Rattle.std.proofs.lemmas.Bool.{eqb-false, eqb-true, leb-false, leb-true}
 use Rattle.std.proofs.lemmas.List.{length-map}
 use Rattle.base.specs.Numbers.{zeros}
 use Rattle.base.specs.declared.refusal.Refusal.{Refusal}
+use Rattle.base.specs.declared.refusal.Values.TheVariants.{None as NoValues}
+use Rattle.base.specs.Refusals.{refused, reported}
 use Rattle.source.specs.Systems.{System}
 use Rattle.store.specs.Stores.{Meaning}
 use Rattle.tree.specs.declared.walk.Found.{Found}
@@ -17,9 +19,8 @@ use Rattle.nest.specs.Tables.{system_of}
 use Rattle.nest_laws.specs.Laws.{Askable}
 use Rattle.nest_laws.proofs.Backs.{back-posts}
 use Rattle.nest_laws.proofs.Latest.{postings-correspond}
-use Rattle.sheet.specs.Arrangements.{LeadsTo}
-use Rattle.sheet.specs.Events.{Event, Find, standing}
-use Rattle.sheet.specs.Laws.{FindRight, InRange, NamesLeast, RefusedRight}
+use Rattle.sheet.specs.Events.{Find}
+use Rattle.sheet.specs.Laws.{FindRight, InRange, RefusedRight}
 use Rattle.sheet.proofs.Arranged.{next-find}
 use Rattle.postings.specs.Latest.{found_turned, latest_in, left_of, turned}
 use Rattle.postings.specs.Laws.{LatestRight, NextLatest}
@@ -31,10 +32,10 @@ in-range-askable (x ∷ z) h zero = let u = h.0.1 in omega (arith, ints, u)
 in-range-askable (x ∷ z) h (suc k) = in-range-askable z h.1 k
 
 module _ (S : System) (f : Find) (r : RefusedRight (Some S) f) (ok : IsOk f.answer) where
-  not-refused : (e : Refusal) → ¬ (f.answer ≡ Err e)
-  not-refused e h = go f.answer h ok
+  not-refused : (number : ℕ) → ¬ (reported f.answer ≡ refused {A = Found} number NoValues)
+  not-refused number h = go f.answer h ok
     where
-      go : (a : Result Found Refusal) → a ≡ Err e → ¬ IsOk a
+      go : (a : Result Found Refusal) → reported a ≡ refused {A = Found} number NoValues → ¬ IsOk a
       go (Ok x) q i = cc
       go (Err x) q i = cc
 
@@ -43,7 +44,7 @@ module _ (S : System) (f : Find) (r : RefusedRight (Some S) f) (ok : IsOk f.answ
     where
       go : (b : Bool) → eqb (length f.point) S.p ≡ b → length f.point ≡ S.p
       go true e = eqb-true (length f.point) S.p e
-      go false e = let q = r.whenever 42 (inl (eqb-false (length f.point) S.p e, refl)) in absurd (not-refused q.0 q.1.0)
+      go false e = absurd (not-refused 42 (r.whenever 42 (inl (eqb-false (length f.point) S.p e, refl))))
 
   askable : (z : List ℕ) → f.point ≡ map pos z → Askable z
   askable z is k = go (leb (slice_index z k) 1000000) refl
@@ -53,7 +54,7 @@ module _ (S : System) (f : Find) (r : RefusedRight (Some S) f) (ok : IsOk f.answ
 
       go : (b : Bool) → leb (slice_index z k) 1000000 ≡ b → slice_index z k ≤ 1000000
       go true e = leb-true (slice_index z k) 1000000 e
-      go false e = let q = r.whenever 43 (inr (inl (counted, (far (leb-false (slice_index z k) 1000000 e), refl)))) in absurd (not-refused q.0 q.1.0)
+      go false e = absurd (not-refused 43 (r.whenever 43 (inr (inl (counted, (far (leb-false (slice_index z k) 1000000 e), refl))))))
 
 -- ---- what find came to, turned back
 -- a point that is found

@@ -1,19 +1,18 @@
 -- A nest that is solved stands.
-use Rattle.std.proofs.Common.{◌≡◌, ℕ, false, [], ◌∷◌, List, ℤ, Some, Ok, Err, Result, OnOk, sym, refl, ap, ap₂, ◌∙◌, subst}
+use Rattle.std.proofs.Common.{◌≡◌, ℕ, [], ◌∷◌, List, ℤ, Ok, Err, Result, OnOk, sym, refl, ap, ◌∙◌, subst}
 use Rattle.base.specs.declared.refusal.Refusal.{Refusal}
 use Rattle.source.specs.Systems.{System}
-use Rattle.store.specs.Stores.{Meaning, fresh, holding, install_answer}
+use Rattle.store.specs.Stores.{Meaning, fresh}
 use Rattle.tree.specs.Trees.{Tree}
 use Rattle.tree.specs.declared.node.Node.{Node}
 use Rattle.solver.specs.Runs.{Outcome}
-use Rattle.solver.specs.Solves.{solve_answer, solved, work_after, written}
-use Rattle.solver.specs.declared.count.Count.{Count}
+use Rattle.solver.specs.Solves.{solve_answer, solved, work_after}
 use Rattle.solver.specs.declared.run.Solved.{Solved}
 use Rattle.nest.specs.Loops.{Loops}
 use Rattle.nest.specs.Tables.{system_of}
-use Rattle.sheet.specs.Arrangements.{Gives, LeadsTo}
+use Rattle.sheet.specs.Arrangements.{Gives}
 use Rattle.sheet.specs.Events.{Solve, solve, standing}
-use Rattle.sheet.specs.Sheets.{after_install, held, replaced, solved_here}
+use Rattle.sheet.specs.Sheets.{held, replaced, solved_here}
 use Rattle.postings.specs.Laws.{Stands}
 
 -- whether a tree fits goes by capacity and costs alone

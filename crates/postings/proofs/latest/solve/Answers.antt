@@ -5,5 +5,5 @@ use Rattle.postings.proofs.latest.solve.Goals as goal
 
 pub returns-clause-stands : goal.returns-clause-stands
 returns-clause-stands g c =
-    solved-stands c.args.sheet.now (nest_of c.args.nest.now) c.args.fuel (length c.args.work.now) c.solve.result c.solve.new.work c.solve.new.self
+    solved-stands c.args.sheet.now (nest_of c.args.nest.now) _ (length c.args.work.now) c.solve.result c.solve.new.work c.solve.new.self
     c.solve.ensures.answer c.solve.ensures.work c.solve.ensures.left
