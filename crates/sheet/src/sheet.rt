@@ -1,5 +1,5 @@
 //! The sheet.
-ghost use Rattle.std.specs.Prelude.{◌≡◌, [], ◌∷◌, length, replicate};
+ghost use Rattle.std.specs.Prelude.{◌≡◌, [], ◌∷◌, IfErr, length, replicate};
 ghost use Rattle.tree.specs.declared.node.Node.TheVariants.{None as Blank};
 ghost use Rattle.store.specs.Stores.{node_at};
 ghost use Rattle.tree.specs.Finds.{found_in, left_of, said_of};
@@ -8,7 +8,7 @@ ghost use Rattle.solver.specs.Solves.{counted_answer, solve_answer, work_after};
 ghost use Rattle.sheet.specs.Sheets.{emptied, replaced, solved_here, uncounted};
 ghost use Rattle.sheet.specs.Events.{find as find_made, solve as solve_made, wipe as wipe_made};
 ghost use Rattle.sheet.specs.Arrangements.{LeadsTo, Reached};
-ghost use Rattle.sheet.specs.Laws.{LeadsOn, NextFind, NextSolve};
+ghost use Rattle.sheet.specs.Laws.{LeadsOn, NextFind, NextSolve, RefusalTold};
 
 use base::refusal::Refusal;
 use solver::count::{Count, Stopped};
@@ -109,6 +109,7 @@ impl<T: Store> Sheet<T> {
         ensures answer { result ≡ solve_answer (solved_here self.old (S.meaning source.now) fuel (length work.old)) }
         ensures work { work.new ≡ work_after (S.meaning source.now) (length work.old) (solved_here self.old (S.meaning source.now) fuel (length work.old)) }
         ensures left { self.new ≡ replaced self.old (S.meaning source.now) (solved_here self.old (S.meaning source.now) fuel (length work.old)) }
+        ensures reached { ∥ Reached self.new ∥₁ }
         ensures right { NextSolve self.old (record { system = S.meaning source.now; room = length work.old; fuel = fuel; answer = result; work = work.new }) }
         ensures law { LeadsOn self.old (solve_made (record { system = S.meaning source.now; room = length work.old; fuel = fuel; answer = result; work = work.new }) ∷ []) self.new }
     {
@@ -126,6 +127,8 @@ impl<T: Store> Sheet<T> {
         ensures answer { result ≡ counted_answer (solved_here self.old (S.meaning source.now) fuel (length work.old)) }
         ensures work { work.new ≡ work_after (S.meaning source.now) (length work.old) (solved_here self.old (S.meaning source.now) fuel (length work.old)) }
         ensures left { self.new ≡ replaced self.old (S.meaning source.now) (solved_here self.old (S.meaning source.now) fuel (length work.old)) }
+        ensures told { IfErr result (RefusalTold (S.meaning source.now) fuel (length work.old)) }
+        ensures reached { ∥ Reached self.new ∥₁ }
         ensures right { NextSolve self.old (record { system = S.meaning source.now; room = length work.old; fuel = fuel; answer = uncounted result; work = work.new }) }
         ensures law { LeadsOn self.old (solve_made (record { system = S.meaning source.now; room = length work.old; fuel = fuel; answer = uncounted result; work = work.new }) ∷ []) self.new }
     {
@@ -147,6 +150,7 @@ impl<T: Store> Sheet<T> {
     pub fn wipe(&mut self) -> usize
         ensures answer { result ≡ length self.old.nodes }
         ensures left { self.new ≡ emptied self.old }
+        ensures reached { ∥ Reached self.new ∥₁ }
         ensures law { LeadsOn self.old (wipe_made result ∷ []) self.new }
     {
         let count = self.store.count();
