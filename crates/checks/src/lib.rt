@@ -2,6 +2,8 @@
 #![tactic(auto)]
 
 #[cfg(test)]
+mod latest_postings;
+#[cfg(test)]
 mod nests;
 #[cfg(test)]
 mod page_stores;
