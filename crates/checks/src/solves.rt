@@ -8,13 +8,13 @@ use tree::node::Node;
 use worked_tree::WORKED;
 
 /// 2 × unknown ≥ k.
-fn half() -> Result<RowSource, Refusal> {
+pub(crate) fn half() -> Result<RowSource, Refusal> {
     let mut source = RowSource::new(1, 1)?;
     source.enter(&[2, -1, 0])?;
     Ok(source)
 }
 
-fn all_blank(rt: &impl Abort, work: &[Node]) {
+pub(crate) fn all_blank(rt: &impl Abort, work: &[Node]) {
     for node in work {
         assert_eq!(rt; *node, Node::None);
     }
