@@ -1,6 +1,6 @@
 //! Why there is no answer: one case for each number, with the values that go with it.
 ghost use Rattle.std.specs.Prelude.{◌≡◌};
-ghost use Rattle.base.specs.Refusals.{report_of};
+ghost use Rattle.base.specs.Refusals.{met, report_of};
 
 /// Where a step was made or a number formed: at a node of the tree, or in a test of the context.
 #[derive(Clone, Copy, PartialEq, Eq, Debug)]
@@ -69,37 +69,67 @@ pub enum Refusal {
     PageDepth { offset: usize },
 }
 
-impl Refusal {
-    // the numbers are known to users: a case that carries values has no other place for its number
-    /// The number by which this refusal is known.
-    pub fn number(&self) -> u8
-        ensures { result ≡ (report_of self.now).number }
+/// The values that go with a refusal's number.
+#[derive(Clone, Copy, PartialEq, Eq, Debug)]
+pub enum Values {
+    None,
+    /// An offset.
+    One(usize),
+    /// A row and a column, or steps and flag.
+    Two(usize, usize),
+}
+
+/// A refusal as users know it: by its number and the values that go with it.
+#[derive(Clone, Copy, PartialEq, Eq, Debug)]
+pub struct Report {
+    pub number: u8,
+    pub values: Values,
+}
+
+impl Met {
+    /// The steps made, and the flag: 1 where it was met in a test.
+    fn values(self) -> Values
+        ensures { result ≡ met self }
     {
-        match self {
-            Refusal::Counts => 11,
-            Refusal::Number { row: _, column: _ } => 12,
-            Refusal::NoParameterPoint => 13,
-            Refusal::RowShape => 14,
-            Refusal::NestShape => 15,
-            Refusal::Listing => 16,
-            Refusal::Fuel => 21,
-            Refusal::WorkFull(_) => 22,
-            Refusal::StoreFull => 23,
-            Refusal::FuelSpent(_) => 24,
-            Refusal::StoreClosed => 25,
-            Refusal::Range(_) => 31,
-            Refusal::Cuts(_) => 32,
-            Refusal::NewParameters(_) => 33,
-            Refusal::Depth(_) => 34,
-            Refusal::NoTree => 41,
-            Refusal::PointLength => 42,
-            Refusal::PointNumber => 43,
-            Refusal::OutsideKeep => 44,
-            Refusal::BeyondBound => 45,
-            Refusal::PageLength { offset: _ } => 51,
-            Refusal::PageKind { offset: _ } => 52,
-            Refusal::PageNumber { offset: _ } => 53,
-            Refusal::PageDepth { offset: _ } => 54,
-        }
+        let flag = match self.place {
+            Place::Node => 0,
+            Place::Test => 1,
+        };
+        Values::Two(self.steps as usize, flag)
+    }
+}
+
+impl Refusal {
+    /// The number by which this refusal is known, and its values.
+    pub fn report(&self) -> Report
+        ensures answer { result ≡ report_of self.now }
+    {
+        let (number, values) = match *self {
+            Refusal::Counts => (11, Values::None),
+            Refusal::Number { row, column } => (12, Values::Two(row, column)),
+            Refusal::NoParameterPoint => (13, Values::None),
+            Refusal::RowShape => (14, Values::None),
+            Refusal::NestShape => (15, Values::None),
+            Refusal::Listing => (16, Values::None),
+            Refusal::Fuel => (21, Values::None),
+            Refusal::WorkFull(met) => (22, met.values()),
+            Refusal::StoreFull => (23, Values::None),
+            Refusal::FuelSpent(met) => (24, met.values()),
+            Refusal::StoreClosed => (25, Values::None),
+            Refusal::Range(met) => (31, met.values()),
+            Refusal::Cuts(met) => (32, met.values()),
+            Refusal::NewParameters(met) => (33, met.values()),
+            Refusal::Depth(met) => (34, met.values()),
+            Refusal::NoTree => (41, Values::None),
+            Refusal::PointLength => (42, Values::None),
+            Refusal::PointNumber => (43, Values::None),
+            Refusal::OutsideKeep => (44, Values::None),
+            Refusal::BeyondBound => (45, Values::None),
+            Refusal::PageLength { offset } => (51, Values::One(offset)),
+            Refusal::PageKind { offset } => (52, Values::One(offset)),
+            Refusal::PageNumber { offset } => (53, Values::One(offset)),
+            Refusal::PageDepth { offset } => (54, Values::One(offset)),
+        };
+        Report { number, values }
     }
 }

@@ -127,6 +127,6 @@ impl fmt::Display for RefusalText {
     ghost output = { λ x. Some (refusal_text x.0) };
 
     fn fmt<W: fmt::Write>(&self, f: &mut fmt::Formatter<W>) -> fmt::Result {
-        writeln!(f, "refused {}", self.0.number())
+        writeln!(f, "refused {}", self.0.report().number)
     }
 }

@@ -2,10 +2,11 @@
 use Rattle.std.specs.Prelude.{ℕ, ◌+◌, cond, List, [], ◌∷◌, ◌++◌, length, replicate, ℤ, is_ok, Ok, Err, Result, slice_set}
 use Rattle.base.specs.declared.refusal.Refusal.{Refusal}
 use Rattle.base.specs.declared.refusal.Refusal.TheVariants.{Counts}
-use Rattle.source.specs.Enters.{confine_answer as confine_system}
+use Rattle.base.specs.declared.refusal.Report.{Report}
+use Rattle.source.specs.Enters.{confine_answer as confine_system, confine_report as report_system}
 use Rattle.source.specs.Limits.{counts_fit}
 use Rattle.base.specs.Numbers.{zeros}
-use Rattle.nest.specs.Limits.{given_answer}
+use Rattle.nest.specs.Limits.{given_answer, given_report}
 use Rattle.nest.specs.Loops.{Loops, loops_of}
 use Rattle.nest.specs.Tables.{system_of}
 use Rattle.nest.specs.declared.nest.Nest.{Nest}
@@ -28,13 +29,22 @@ new_answer n p = cond (counts_fit n p 0 0) (Ok (plain n p)) (Err Counts)
 abbrev pub bound_answer : Loops → ℕ → List ℤ → Result (Unit {0}) Refusal
 bound_answer L i numbers = given_answer (L.p + 1) i L.n numbers
 
+abbrev pub bound_report : Loops → ℕ → List ℤ → Result (Unit {0}) Report
+bound_report L i numbers = given_report (L.p + 1) i L.n numbers
+
 -- a cell condition has a number for each counter and parameter, and one more; there are at most 3
 abbrev pub cell_answer : Loops → List ℤ → Result (Unit {0}) Refusal
 cell_answer L numbers = given_answer (L.n + L.p + 1) (length L.cells) 3 numbers
 
+abbrev pub cell_report : Loops → List ℤ → Result (Unit {0}) Report
+cell_report L numbers = given_report (L.n + L.p + 1) (length L.cells) 3 numbers
+
 -- a context row is taken as a row source that means the same system takes it
 abbrev pub confine_answer : Loops → List ℤ → Result (Unit {0}) Refusal
 confine_answer L row = confine_system (system_of L) row
+
+abbrev pub confine_report : Loops → List ℤ → Result (Unit {0}) Report
+confine_report L row = report_system (system_of L) row
 
 -- what is given joins if it is not refused; a refusal alters nothing
 abbrev pub bounded : Loops → ℕ → List ℤ → Loops

@@ -1,7 +1,8 @@
 //! The numbers of bounds and cell conditions.
 ghost use Rattle.std.specs.Prelude.{◌≡◌, ◌<◌, length, OnOk};
 ghost use Rattle.base.specs.Numbers.{AllWithin};
-ghost use Rattle.nest.specs.Limits.{all_small, given_answer, is_small};
+ghost use Rattle.base.specs.Refusals.{reported};
+ghost use Rattle.nest.specs.Limits.{all_small, given_answer, given_report, is_small};
 
 use base::refusal::Refusal;
 
@@ -33,6 +34,7 @@ pub(crate) fn check_given(
     places: usize,
 ) -> Result<(), Refusal>
     ensures answer { result ≡ given_answer width place places numbers.now }
+    ensures report { reported result ≡ given_report width place places numbers.now }
     ensures fits { OnOk result ((length numbers.now ≡ width) × (place < places) × AllWithin 300 numbers.now) }
 {
     if numbers.len() != width || place >= places || !all_small(numbers) {

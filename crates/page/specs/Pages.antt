@@ -2,6 +2,8 @@
 use Rattle.std.specs.Prelude.{◌≡◌, ℕ, ◌-◌, true, List, length, take, Some, Ok, Err, Option, Result, slice_index_or}
 use Rattle.base.specs.declared.refusal.Refusal.{Refusal}
 use Rattle.base.specs.declared.refusal.Refusal.TheVariants.{PageLength, PageKind, PageNumber, PageDepth}
+use Rattle.base.specs.declared.refusal.Report.{Report}
+use Rattle.base.specs.declared.refusal.Values.TheVariants.{One}
 use Rattle.tree.specs.declared.node.Node.{Node}
 use Rattle.tree.specs.declared.node.Node.TheVariants.{None as Blank}
 use Rattle.tree.specs.Limits.{WithinLimits}
@@ -27,6 +29,16 @@ refusal_of FlawKind offset = PageKind offset
 refusal_of FlawNumber offset = PageNumber offset
 refusal_of FlawDepth offset = PageDepth offset
 
+-- the same in numbers: 51 to 54, and the offset
+abbrev pub number_of : Flaw → ℕ
+number_of FlawLength = 51
+number_of FlawKind = 52
+number_of FlawNumber = 53
+number_of FlawDepth = 54
+
+abbrev pub flaw_report : Flaw → ℕ → Report
+flaw_report f offset = record { number = number_of f; values = One offset }
+
 -- the answer of a check: how many nodes, or why not and at which offset
 abbrev pub checked_as : List ℕ → Out Whole → Result ℕ Refusal
 checked_as bs (done w r) = Ok (length (list_of w))
@@ -34,6 +46,14 @@ checked_as bs (fault e r) = Err (refusal_of e (length bs - length r))
 
 abbrev pub checked : List ℕ → Result ℕ Refusal
 checked bs = checked_as bs (reading bs)
+
+-- the same in numbers
+abbrev pub check_report_as : List ℕ → Out Whole → Result ℕ Report
+check_report_as bs (done w r) = Ok (length (list_of w))
+check_report_as bs (fault e r) = Err (flaw_report e (length bs - length r))
+
+abbrev pub check_report : List ℕ → Result ℕ Report
+check_report bs = check_report_as bs (reading bs)
 
 -- the page of one tree within the limits, which has k nodes, and of no other: of no other tree within the limits, and of no other nodes at all
 pub record PageOfOne (bs : List ℕ) (k : ℕ) : Type 0 where

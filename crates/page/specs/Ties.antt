@@ -9,9 +9,10 @@ use Rattle.page.specs.declared.check.Fault.{Fault}
 use Rattle.page.specs.Fits.{form_fits, leaf_fits, new_fits}
 use Rattle.page.specs.Words.{forms, word, words}
 use Rattle.page.specs.Readings.{Out, Whole, below, done, fault, reading}
-use Rattle.page.specs.Pages.{list_of, refusal_of}
+use Rattle.page.specs.Pages.{flaw_report, list_of, refusal_of}
 use Rattle.page.specs.declared.back.Placed.{Placed}
 use Rattle.base.specs.declared.refusal.Refusal.{Refusal}
+use Rattle.base.specs.declared.refusal.Report.{Report}
 use Rattle.tree.specs.Finds.{head_fits}
 use Rattle.page.specs.declared.check.Top.{Top}
 use Rattle.page.specs.Records.{Kind, Opened, flawed, head, keep, leaf, new, none, one, opened, split}
@@ -97,3 +98,7 @@ WholeReads bs (Err f) = (reading bs ≡ fault f.flaw f.at.now) × (length f.at.n
 abbrev pub PlacedAt : List ℕ → ℕ → Result Placed Refusal → Type 0
 PlacedAt bs i (Ok x) = (x.offset ≡ i) × ((rest : List ℕ) × ((opened (drop i bs) ≡ one (kind_in x.found) (body_in x.found) rest) × (x.next ≡ length bs - length rest)))
 PlacedAt bs i (Err e) = (f : Flaw) × ((opened (drop i bs) ≡ flawed f) × (e ≡ refusal_of f i))
+
+-- in numbers, why there is none: 51 or 52, and the offset
+abbrev pub ReportedAt : List ℕ → ℕ → Report → Type 0
+ReportedAt bs i report = (f : Flaw) × ((opened (drop i bs) ≡ flawed f) × (report ≡ flaw_report f i))

@@ -1,9 +1,10 @@
 //! Records and nodes read back from a page.
-ghost use Rattle.std.specs.Prelude.{◌≡◌, length, slice_index_or};
+ghost use Rattle.std.specs.Prelude.{◌≡◌, IfErr, length, slice_index_or};
 ghost use Rattle.tree.specs.declared.node.Node.TheVariants.{None as Blank};
+ghost use Rattle.base.specs.Refusals.{report_of};
 ghost use Rattle.page.specs.Pages.{ReadsBack};
 ghost use Rattle.page.specs.Records.{node_of, nodes_in};
-ghost use Rattle.page.specs.Ties.{PlacedAt, body_in, kind_in};
+ghost use Rattle.page.specs.Ties.{PlacedAt, ReportedAt, body_in, kind_in};
 
 use crate::check::refusal;
 use crate::number::{form_of, forms_of, new_of};
@@ -22,6 +23,7 @@ pub struct Placed<'a> {
 /// The record at an offset of a page: refused by 51 where bytes are missing, and by 52 where the byte is no kind.
 pub fn record_at<'a>(page: &'a [u8], offset: usize) -> Result<Placed<'a>, Refusal>
     ensures value { PlacedAt page.now offset result }
+    ensures report { IfErr result (λ e. ReportedAt page.now offset (report_of e)) }
 {
     let Some(rest) = page.get(offset..) else {
         return Err(Refusal::PageLength { offset });

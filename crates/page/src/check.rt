@@ -1,6 +1,7 @@
 //! The check of a page.
 ghost use Rattle.std.specs.Prelude.{◌≡◌, ◌+◌, ◌-◌, ◌<◌, ◌≤◌, length, IfOk};
-ghost use Rattle.page.specs.Pages.{Accepted, Refused, WrittenAccepted, checked, refusal_of};
+ghost use Rattle.base.specs.Refusals.{report_of, reported};
+ghost use Rattle.page.specs.Pages.{Accepted, Refused, WrittenAccepted, check_report, checked, flaw_report, refusal_of};
 ghost use Rattle.page.specs.Readings.{head_at, keeps, objection, opening, parse};
 ghost use Rattle.page.specs.Records.{kind_of};
 ghost use Rattle.page.specs.Ties.{Agrees, Allowed, Inside, HeadReads, Heads, Reads, WholeReads, body_in, keep_count, keep_first, kind_in, node_count, record_fits};
@@ -253,6 +254,7 @@ fn whole<'a>(page: &'a [u8]) -> Result<usize, Fault<'a>>
 /// The refusal of a record, with its offset.
 pub(crate) fn refusal(flaw: Flaw, offset: usize) -> Refusal
     ensures value { result ≡ refusal_of flaw offset }
+    ensures report { report_of result ≡ flaw_report flaw offset }
 {
     match flaw {
         Flaw::Length => Refusal::PageLength { offset },
@@ -270,6 +272,7 @@ pub(crate) fn refusal(flaw: Flaw, offset: usize) -> Refusal
 /// end are refused at the first of them (51).
 pub fn check(page: &[u8]) -> Result<usize, Refusal>
     ensures answer { result ≡ checked page.now }
+    ensures report { reported result ≡ check_report page.now }
     ensures accepted { Accepted page.now result }
     ensures written { WrittenAccepted page.now result }
     ensures refused { Refused page.now result }

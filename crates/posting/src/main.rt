@@ -153,7 +153,7 @@ impl Reading {
                 println!(rt; "")?;
             }
             Ok(Found::None) => println!(rt; ": no posting")?,
-            Err(refusal) => println!(rt; ": refused {}", refusal.number())?,
+            Err(refusal) => println!(rt; ": refused {}", refusal.report().number)?,
         }
         Ok(())
     }
@@ -201,7 +201,7 @@ fn run(rt: &HostRuntime) -> anyhow::Result<()> {
     match take_lines(rt, text.as_slice()) {
         Ok(()) => Ok(()),
         Err(Stop::Refused(refusal)) => {
-            println!(rt; "refused {}", refusal.number())?;
+            println!(rt; "refused {}", refusal.report().number)?;
             Ok(())
         }
         Err(Stop::Failed(error)) => Err(error),

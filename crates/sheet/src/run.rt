@@ -1,5 +1,5 @@
 //! Lists of calls, run on a sheet.
-ghost use Rattle.std.specs.Prelude.{◌≡◌, ◌≤◌, ◌<◌, List, IfOk, OnErr, length, vec_capacity, vec_len};
+ghost use Rattle.std.specs.Prelude.{◌≡◌, List, [], ◌∷◌, IfOk, OnErr, length};
 ghost use Rattle.sheet.specs.Events.{Event};
 ghost use Rattle.sheet.specs.Arrangements.{Gives, after};
 ghost use Rattle.sheet.specs.Laws.{LeadsOn};

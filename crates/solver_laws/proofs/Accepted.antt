@@ -7,9 +7,9 @@ use Rattle.source.specs.Limits.{counts_answer, counts_fit}
 use Rattle.source.specs.Systems.{System}
 use Rattle.tree.specs.Trees.{Tree}
 use Rattle.solver.specs.declared.count.Count.{Count}
-use Rattle.solver.specs.Solves.{fuel_fits, run, solved, start, system_fits}
+use Rattle.solver.specs.Runs.{Outcome}
+use Rattle.solver.specs.Solves.{fuel_fits, nothing, run, run_if, solved, start, system_fits}
 use Rattle.base.specs.Refusals.{and_then}
-use Rattle.solver_laws.proofs.FuelRange.{first}
 use Rattle.solver.specs.Ties.{limits}
 
 -- ---- one check after another
@@ -20,6 +20,15 @@ then-first (Err x) r v e = absurd (subst (λ (o : Result _ Refusal). elim o as (
 pub then-second : {A : Type 0} (a : Result (Unit {0}) Refusal) (r : Result A Refusal) (v : A) → and_then a r ≡ Ok v → r ≡ Ok v
 then-second (Ok _) r v e = e
 then-second (Err x) r v e = absurd (subst (λ (o : Result _ Refusal). elim o as (λ _. Type 0) [ Ok y ↦ ⊥ | Err y ↦ Unit {0} ]) e tt)
+
+-- a run where a check passed
+run-first : {A : Type 0} (a : Result (Unit {0}) Refusal) (o : Outcome A) (v : A × Count) → run_if a o ≡ Ok v → a ≡ Ok tt
+run-first (Ok _) o v e = refl
+run-first (Err x) o v e = absurd (subst (λ (o : Outcome _). elim o as (λ _. Type 0) [ Ok y ↦ ⊥ | Err y ↦ Unit {0} ]) e tt)
+
+run-second : {A : Type 0} (a : Result (Unit {0}) Refusal) (o : Outcome A) (v : A × Count) → run_if a o ≡ Ok v → o ≡ Ok v
+run-second (Ok _) o v e = e
+run-second (Err x) o v e = absurd (subst (λ (o : Outcome _). elim o as (λ _. Type 0) [ Ok y ↦ ⊥ | Err y ↦ Unit {0} ]) e tt)
 
 -- ---- the counts of a system within the limits
 pub record Counted (S : System) : Type 0 where
@@ -48,8 +57,8 @@ counted S e =
 
 pub system-fits : (S : System) (fuel : ℤ) (room : ℕ) (t : Tree) (c : Count) → solved S fuel room ≡ Ok (t, c) → system_fits S ≡ Ok tt
 unfolding solved
-system-fits S fuel room t c e = then-first (system_fits S) _ (t, c) e
+system-fits S fuel room t c e = run-first (system_fits S) _ (t, c) e
 
-pub run_of : (S : System) (fuel : ℤ) (room : ℕ) (t : Tree) (c : Count) → solved S fuel room ≡ Ok (t, c) → run (start S) (limits (nat_abs fuel) room) first ≡ Ok (t, c)
+pub run_of : (S : System) (fuel : ℤ) (room : ℕ) (t : Tree) (c : Count) → solved S fuel room ≡ Ok (t, c) → run (start S) (limits (nat_abs fuel) room) nothing ≡ Ok (t, c)
 unfolding solved
-run_of S fuel room t c e = then-second (fuel_fits fuel) _ (t, c) (then-second (system_fits S) _ (t, c) e)
+run_of S fuel room t c e = run-second (fuel_fits fuel) _ (t, c) (run-second (system_fits S) _ (t, c) e)

@@ -5,7 +5,7 @@ use Rattle.base.specs.declared.refusal.Met.{Met}
 use Rattle.base.specs.declared.refusal.Place.{Place}
 use Rattle.base.specs.declared.refusal.Place.TheVariants.{Node, Test}
 use Rattle.base.specs.declared.refusal.Refusal.{Refusal}
-use Rattle.base.specs.declared.refusal.Refusal.TheVariants.{Cuts, Depth, FuelSpent, NewParameters, NoParameterPoint, Range}
+use Rattle.base.specs.declared.refusal.Refusal.TheVariants.{Cuts, Depth, FuelSpent, NewParameters, NoParameterPoint, Range, WorkFull}
 use Rattle.base.specs.Forms.{opposite}
 use Rattle.base.specs.Numbers.{at}
 use Rattle.tableau.specs.declared.table.Row.{Row}
@@ -25,9 +25,22 @@ Property = (A : Type 0) → Run A → Type 0
 abbrev pub TreeProperty : Type 1
 TreeProperty = ℕ → Place → Run Tree → Type 0
 
--- refusals on the way for another reason than fuel
+-- how far the run had come, for a refusal that tells it
+abbrev pub met_of : Refusal → Option Met
+met_of (WorkFull m) = Some m
+met_of (FuelSpent m) = Some m
+met_of (Range m) = Some m
+met_of (Cuts m) = Some m
+met_of (NewParameters m) = Some m
+met_of (Depth m) = Some m
+met_of _ = None
+
+-- refusals on the way, and those for another reason than fuel
+abbrev pub OnTheWay : (Met → Refusal) → Type 0
+OnTheWay why = (m : Met) → met_of (why m) ≡ Some m
+
 abbrev pub Other : (Met → Refusal) → Type 0
-Other why = (m : Met) → ((m' : Met) → ¬ (why m ≡ FuelSpent m')) × ¬ (why m ≡ NoParameterPoint)
+Other why = (m : Met) → ((m' : Met) → ¬ (why m ≡ FuelSpent m')) × (met_of (why m) ≡ Some m)
 
 -- the property holds of the words that write nothing, and passes from one computation to the next
 pub record Passes (P : Property) : Type 1 where
@@ -59,16 +72,16 @@ pub no-path : ◌≡◌ {A = ℕ} 0 1 → ⊥
 no-path z = omega arith
 
 other-range : Other Range
-other-range m = (λ m' e. no-path cc, λ e. no-path cc)
+other-range m = (λ m' e. no-path cc, refl)
 
 other-cuts : Other Cuts
-other-cuts m = (λ m' e. no-path cc, λ e. no-path cc)
+other-cuts m = (λ m' e. no-path cc, refl)
 
 other-new : Other NewParameters
-other-new m = (λ m' e. no-path cc, λ e. no-path cc)
+other-new m = (λ m' e. no-path cc, refl)
 
 other-depth : Other Depth
-other-depth m = (λ m' e. no-path cc, λ e. no-path cc)
+other-depth m = (λ m' e. no-path cc, refl)
 
 -- ---- the signs of constants are known at once
 abbrev Sure : Scan → Type 0
@@ -243,9 +256,6 @@ module _ (P : Property) (T : TreeProperty) (g : Roots P T) where
   of-run s = g.grows.passes.bound _ _ (test _ _ _) (begun s) (of_test P T g.grows _ _ _) (of-begun s)
 
 -- ---- a property of all the words is one of every test and node, and with that of refusal 13 one of every run, whatever the gas
-abbrev pub OnTheWay : (Met → Refusal) → Type 0
-OnTheWay why = (m : Met) → ¬ (why m ≡ NoParameterPoint)
-
 pub record Words (P : Property) : Type 1 where
   pub returned : (A : Type 0) (a : A) → P A (return a)
   pub refused : (A : Type 0) (why : Met → Refusal) (place : Place) → OnTheWay why → P A (refuse why place)
@@ -255,8 +265,8 @@ pub record Words (P : Property) : Type 1 where
   pub bound : (A B : Type 0) (m : Run A) (k : A → Run B) → P A m → ((a : A) → P B (k a)) → P B (m >>= k)
   pub followed : (A B : Type 0) (m : Run A) (k : Run B) → P A m → P B k → P B (m >> k)
 
-pub spent-on-the-way : OnTheWay FuelSpent
-spent-on-the-way m e = no-path cc
+spent-on-the-way : OnTheWay FuelSpent
+spent-on-the-way m = refl
 
 module _ (P : Property) (w : Words P) where
   abbrev of-trees : TreeProperty

@@ -10,10 +10,9 @@ use Rattle.source.specs.Systems.{System}
 use Rattle.tree.specs.declared.node.Node.TheVariants.{Keep}
 use Rattle.tree.specs.Trees.{Tree, leaf, new, nodes, none, split}
 use Rattle.solver.specs.declared.count.Count.{Count}
-use Rattle.solver.specs.Runs.{Limits, Outcome, Run, bar, fail, met_at, next, noted, refuse, return, stepped, tick, write, ◌>>=◌, ◌>>◌}
+use Rattle.solver.specs.Runs.{Limits, Outcome, Run, bar, fail, next, noted, refuse, return, stepped, stopped_at, tick, write, ◌>>=◌, ◌>>◌}
 use Rattle.solver.specs.Rules.{Work, has_point, node, test}
-use Rattle.solver.specs.Solves.{begun, context_of, fuel_fits, keeps, run, solved, start, system_fits}
-use Rattle.base.specs.Refusals.{and_then}
+use Rattle.solver.specs.Solves.{begun, context_of, fuel_fits, keeps, run, run_if, solved, start, system_fits}
 use Rattle.solver_laws.specs.Laws.{NodesCounted}
 use Rattle.solver_laws.proofs.Closed.{Grows, Passes, of_node, of_test}
 
@@ -54,7 +53,7 @@ module _ (A : Type 0) where
   unfolding bar
   adds-bar n f why place = λ l c. go l c (ltb c.steps l.fuel)
     where
-      go : (l : Limits) (c : Count) (b : Bool) → IfOk (cond b (Err (why (met_at place c))) (Err (FuelSpent (met_at place c)))) (λ (v : A × Count). v.1.nodes + n ≡ c.nodes + f v.0)
+      go : (l : Limits) (c : Count) (b : Bool) → IfOk (cond b (Err (stopped_at why place c)) (Err (stopped_at FuelSpent place c))) (λ (v : A × Count). v.1.nodes + n ≡ c.nodes + f v.0)
       go l c true = tt
       go l c false = tt
 
@@ -62,7 +61,7 @@ adds-tick : (place : Place) → AddsNone (Unit {0}) (tick place)
 unfolding tick
 adds-tick place = λ l c. go c (ltb c.steps l.fuel)
   where
-    go : (c : Count) (b : Bool) → IfOk {T = Unit {0} × Count} (cond b (Ok (tt {0}, stepped c)) (Err (FuelSpent (met_at place c)))) (λ v. v.1.nodes + 0 ≡ c.nodes + 0)
+    go : (c : Count) (b : Bool) → IfOk {T = Unit {0} × Count} (cond b (Ok (tt {0}, stepped c)) (Err (stopped_at FuelSpent place c))) (λ v. v.1.nodes + 0 ≡ c.nodes + 0)
     go c true = refl
     go c false = tt
 
@@ -71,7 +70,7 @@ unfolding write
 adds-write Test = λ l c. refl
 adds-write Node = λ l c. go c (ltb c.nodes l.room)
   where
-    go : (c : Count) (b : Bool) → IfOk {T = Unit {0} × Count} (cond b (Ok (tt {0}, noted c)) (Err (WorkFull (met_at Node c)))) (λ v. v.1.nodes + 0 ≡ c.nodes + 1)
+    go : (c : Count) (b : Bool) → IfOk {T = Unit {0} × Count} (cond b (Ok (tt {0}, noted c)) (Err (stopped_at WorkFull Node c))) (λ v. v.1.nodes + 0 ≡ c.nodes + 1)
     go c true = omega arith
     go c false = tt
 
@@ -183,7 +182,7 @@ counted-solved : (S : System) (fuel : ℤ) (room : ℕ) → IfOk (solved S fuel 
 unfolding solved
 counted-solved S fuel room = go (system_fits S) (fuel_fits fuel) _ (adds_run (start S) _ _)
   where
-    go : (a b : Result (Unit {0}) Refusal) (o : Outcome Tree) → IfOk o (λ v. v.1.nodes + 0 ≡ 0 + whole (start S) v.0) → IfOk (and_then a (and_then b o)) (λ v. v.1.nodes + 0 ≡ 0 + whole (start S) v.0)
+    go : (a b : Result (Unit {0}) Refusal) (o : Outcome Tree) → IfOk o (λ v. v.1.nodes + 0 ≡ 0 + whole (start S) v.0) → IfOk (run_if a (run_if b o)) (λ v. v.1.nodes + 0 ≡ 0 + whole (start S) v.0)
     go (Ok _) (Ok _) o h = h
     go (Ok _) (Err e) o h = tt
     go (Err e) b o h = tt

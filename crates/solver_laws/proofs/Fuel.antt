@@ -1,5 +1,5 @@
 -- The fuel law of whole solves.
-use Rattle.std.proofs.Common.{◌≡◌, ℕ, ◌<◌, ◌≤◌, ℤ, pos, negsuc, ◌≤ℤ◌, ◌<ℤ◌, Ok, Err, Result, refl, ap, ◌∙◌, arith}
+use Rattle.std.proofs.Common.{◌≡◌, ℕ, ◌<◌, ◌≤◌, ℤ, pos, negsuc, nat_abs, ◌≤ℤ◌, ◌<ℤ◌, Ok, Err, Result, refl, ap, ◌∙◌, subst, arith}
 use native.Mathlib.Decide.{dec_le}
 use borrow.Author.Differences.{ints}
 use Rattle.base.specs.declared.refusal.Met.{Met}
@@ -8,16 +8,15 @@ use Rattle.base.specs.declared.refusal.Refusal.TheVariants.{Fuel, FuelSpent, NoP
 use Rattle.source.specs.Systems.{System}
 use Rattle.tree.specs.Trees.{Tree}
 use Rattle.solver.specs.declared.count.Count.{Count}
-use Rattle.solver.specs.Runs.{Outcome}
-use Rattle.solver.specs.Solves.{fuel_fits, run, solved, start, system_fits}
-use Rattle.base.specs.Refusals.{and_then}
+use Rattle.solver.specs.Runs.{Outcome, steps_of, stopped}
+use Rattle.solver.specs.Solves.{fuel_fits, nothing, run, run_if, solved, start, system_fits}
 use Rattle.solver_laws.specs.Fuel.{Enough, FuelLaw, LessSpent, MoreRefused, Spent, TooLittle}
 use Rattle.solver_laws.proofs.Closed.{of_words}
 use Rattle.solver_laws.proofs.Inside.{within-fuel}
-use Rattle.solver_laws.proofs.FuelRange.{first, fits_in, fits-ok, fits_out}
+use Rattle.solver_laws.proofs.FuelRange.{fits_in, fits-ok, fits_out}
 use Rattle.solver.specs.Ties.{limits}
 use Rattle.solver_laws.proofs.Metered.{Fuelled, Metered, metered-fail, metered-words, same-refusal}
-use Rattle.solver_laws.proofs.Spent.{spent-whole}
+use Rattle.solver_laws.proofs.Spent.{early-spent, spent-whole, why-is}
 
 -- ---- numbers that are not negative
 -- a whole number that is not below a natural one
@@ -32,21 +31,21 @@ less-than : (f n : ℕ) (fuel : ℤ) → fuel ≡ pos f → fuel <ℤ pos n → 
 less-than f n fuel e h = let k : pos f <ℤ pos n = rw e at h in omega (arith, ints)
 
 -- ---- solves under two fuels in limits
-solved-in : (S : System) (f room : ℕ) → f ≤ 100_000 → solved S (pos f) room ≡ and_then (system_fits S) (run (start S) (limits f room) first)
+solved-in : (S : System) (f room : ℕ) → f ≤ 100_000 → solved S (pos f) room ≡ run_if (system_fits S) (run (start S) (limits f room) nothing)
 unfolding solved
-solved-in S f room h = ap (λ b. and_then (system_fits S) (and_then b (run (start S) (limits f room) first))) (fits_in f h)
+solved-in S f room h = ap (λ b. run_if (system_fits S) (run_if b (run (start S) (limits f room) nothing))) (fits_in f h)
 
-fuelled-after : (f f' : ℕ) (a : Result (Unit {0}) Refusal) (o o' : Outcome Tree) → Fuelled Tree 0 f f' o o' → Fuelled Tree 0 f f' (and_then a o) (and_then a o')
+fuelled-after : (f f' : ℕ) (a : Result (Unit {0}) Refusal) (o o' : Outcome Tree) → Fuelled Tree 0 f f' o o' → Fuelled Tree 0 f f' (run_if a o) (run_if a o')
 fuelled-after f f' (Ok _) o o' h = h
-fuelled-after f f' (Err e) o o' h = same-refusal Tree 0 f f' e
+fuelled-after f f' (Err e) o o' h = same-refusal Tree 0 f f' (stopped e nothing)
 
 fuelled-solved : (S : System) (f f' room : ℕ) → f ≤ 100_000 → f' ≤ 100_000 → Fuelled Tree 0 f f' (solved S (pos f) room) (solved S (pos f') room)
 fuelled-solved S f f' room h h' =
     rw (solved-in S f room h, solved-in S f' room h')
-    (fuelled-after f f' (system_fits S) _ _ (of_words Metered metered-words (metered-fail Tree NoParameterPoint) (start S) f f' room first (omega arith) (omega arith)))
+    (fuelled-after f f' (system_fits S) _ _ (of_words Metered metered-words (metered-fail Tree NoParameterPoint) (start S) f f' room nothing (omega arith) (omega arith)))
 
 -- ---- accepted
-second-ok : (a b : Result (Unit {0}) Refusal) (o : Outcome Tree) (v : Tree × Count) → and_then a (and_then b o) ≡ Ok v → b ≡ Ok tt
+second-ok : (a b : Result (Unit {0}) Refusal) (o : Outcome Tree) (v : Tree × Count) → run_if a (run_if b o) ≡ Ok v → b ≡ Ok tt
 second-ok (Ok _) (Ok u) o v e = refl
 second-ok (Ok _) (Err r) o v e = cc
 second-ok (Err r) b o v e = cc
@@ -54,6 +53,9 @@ second-ok (Err r) b o v e = cc
 accepted-in : (S : System) (fuel : ℤ) (room : ℕ) (v : Tree × Count) → solved S fuel room ≡ Ok v → (f : ℕ) × (fuel ≡ pos f) × (f ≤ 100_000)
 unfolding solved
 accepted-in S fuel room v e = fits-ok fuel (second-ok (system_fits S) (fuel_fits fuel) _ v e)
+
+accepted-within : (S : System) (fuel : ℤ) (room : ℕ) (t : Tree) (c : Count) → solved S fuel room ≡ Ok (t, c) → c.steps ≤ nat_abs fuel
+accepted-within S fuel room t c e = subst (λ o. steps_of o ≤ nat_abs fuel) e (within-fuel S fuel room)
 
 pub enough : Enough
 enough S room fuel fuel' t c e h h' =
@@ -69,22 +71,22 @@ too-little S room fuel fuel' t c e h h' =
     let k' = natural 0 fuel' h in
     let e' : solved S (pos k.0) room ≡ Ok (t, c) = rw k.1 at e in
     let short : k'.0 < c.steps = less-than k'.0 c.steps fuel' k'.1 h' in
-    let own : c.steps ≤ k.0 = rw k.1 at (within-fuel S fuel room t c e) in
+    let own : c.steps ≤ k.0 = rw k.1 at (accepted-within S fuel room t c e) in
     let most : k.0 ≤ 100_000 = k.2 in
     let law : Fuelled Tree 0 k.0 k'.0 (Ok (t, c)) (solved S (pos k'.0) room) = rw e' at (fuelled-solved S k.0 k'.0 room k.2 (omega arith)) in
     rw k'.1 (law.3 short)
 
 -- ---- refused
 -- a refusal of the system itself comes under any fuel
-first-spent : (a : Result (Unit {0}) Refusal) (m : Met) (o : Outcome Tree) → and_then {A = Tree × Count} a (Err Fuel) ≡ Err (FuelSpent m) → and_then a o ≡ Err (FuelSpent m)
-first-spent (Ok _) m o e = cc
-first-spent (Err r) m o e = e
+first-spent : (a : Result (Unit {0}) Refusal) (m : Met) (c : Count) (o : Outcome Tree) → run_if {A = Tree} a (Err (stopped Fuel nothing)) ≡ Err (stopped (FuelSpent m) c) → run_if a o ≡ Err (stopped (FuelSpent m) c)
+first-spent (Ok _) m c o e = absurd (early-spent Fuel m tt (why-is (stopped Fuel nothing) (stopped (FuelSpent m) c) e))
+first-spent (Err r) m c o e = e
 
 over-spent : (S : System) (f room : ℕ) (fuel' : ℤ) → 100_000 < f → Spent (solved S (pos f) room) → Spent (solved S fuel' room)
 unfolding solved
 over-spent S f room fuel' h s =
-    let e : and_then {A = Tree × Count} (system_fits S) (Err Fuel) ≡ Err (FuelSpent s.0) = rw (fits_out f h) at s.1 in
-    (s.0, first-spent (system_fits S) s.0 _ e)
+    let e : run_if {A = Tree} (system_fits S) (Err (stopped Fuel nothing)) ≡ Err (stopped (FuelSpent s.0) s.1) = rw (fits_out f h) at s.2 in
+    (s.0, s.1, first-spent (system_fits S) s.0 s.1 _ e)
 
 pub less-spent : LessSpent
 less-spent S room fuel fuel' s h h' =
@@ -94,7 +96,7 @@ less-spent S room fuel fuel' s h h' =
     elim (dec_le k.0 100_000) [
       | yes w ↦
           (let under : k'.0 ≤ k.0 = k.2 in
-          let law : Fuelled Tree 0 k.0 k'.0 (Err (FuelSpent s'.0)) (solved S (pos k'.0) room) = rw s'.1 at (fuelled-solved S k.0 k'.0 room w (omega arith)) in
+          let law : Fuelled Tree 0 k.0 k'.0 (Err (stopped (FuelSpent s'.0) s'.1)) (solved S (pos k'.0) room) = rw s'.2 at (fuelled-solved S k.0 k'.0 room w (omega arith)) in
           rw k'.1 (law.0 (s'.0, refl) under))
       | no w ↦ over-spent S k.0 room fuel' (omega arith) s'
     ]
@@ -107,7 +109,7 @@ more-refused S room fuel fuel' r e other h le most =
     let under : k.0 ≤ k'.0 = k'.2 in
     let most' : k'.0 ≤ 100_000 = at_most k'.0 100_000 fuel' k'.1 most in
     let law : Fuelled Tree 0 k.0 k'.0 (Err r) (solved S (pos k'.0) room) = rw e' at (fuelled-solved S k.0 k'.0 room (omega arith) most') in
-    rw k'.1 (law.1 (λ s. other (s.0, e ∙ ap Err s.1)) under)
+    rw k'.1 (law.1 (λ s. other (s.0, r.count, e ∙ (λ i. Err (stopped (s.1 i) r.count)))) under)
 
 pub fuel-law : FuelLaw
 fuel-law = (enough, too-little, less-spent, more-refused, spent-whole)

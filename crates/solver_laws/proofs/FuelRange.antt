@@ -1,13 +1,9 @@
--- The limits and the count that a run begins with, and the limits of fuel.
+-- The limits of fuel.
 use Rattle.std.proofs.Common.{◌≡◌, ℕ, ◌<◌, ◌≤◌, Bool, true, false, cond, ◌&&◌, leb, ℤ, pos, negsuc, Ok, Err, Result, refl, ap, arith}
 use Rattle.std.proofs.lemmas.Bool.{and_from, and_parts, and_right, le-leb, leb-true, lt-leb}
 use Rattle.base.specs.declared.refusal.Refusal.{Refusal}
 use Rattle.base.specs.declared.refusal.Refusal.TheVariants.{Fuel}
-use Rattle.solver.specs.declared.count.Count.{Count}
 use Rattle.solver.specs.Solves.{fuel_fits}
-
-abbrev pub first : Count
-first = record { steps = 0; nodes = 0 }
 
 -- ---- fuel from 0 to 100,000
 pub fits_in : (f : ℕ) → f ≤ 100_000 → fuel_fits (pos f) ≡ Ok tt

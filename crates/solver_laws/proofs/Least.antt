@@ -10,11 +10,10 @@ use Rattle.tableau_laws.specs.Facts.{Right}
 use Rattle.tableau_laws.proofs.Start.{start_right}
 use Rattle.tree.specs.Answers.{answer_from, setting}
 use Rattle.solver.specs.Rules.{Work}
-use Rattle.solver.specs.Solves.{begun, row_of, rows_of, run, start}
+use Rattle.solver.specs.Solves.{begun, nothing, row_of, rows_of, run, start}
 use Rattle.solver_laws.specs.Least.{LeastPoint}
 use Rattle.solver_laws.specs.Meaning.{Setting, Yields}
 use Rattle.solver_laws.proofs.Accepted.{Counted, counted, run_of, system-fits}
-use Rattle.solver_laws.proofs.FuelRange.{first}
 use Rattle.solver.specs.Ties.{limits}
 use Rattle.solver_laws.proofs.Formed.{Formed}
 use Rattle.solver_laws.proofs.Nodes.{Answers, Good, node-right}
@@ -66,4 +65,4 @@ run-right n sys s ρ g = y-bind (λ _. Unit {0}) _ _ _ (y-any _) (λ b _. begun-
 pub least-point : LeastPoint
 least-point S fuel room t c e z m =
     let k = counted S (system-fits S fuel room t c e) in
-    right_answer S z m.counted (answer_from 0 (setting z) t) ((run-right S.n (lines_at S (setting z)) (start S) (setting z) (start-good S k z m)).law (limits (nat_abs fuel) room) first t c (run_of S fuel room t c e))
+    right_answer S z m.counted (answer_from 0 (setting z) t) ((run-right S.n (lines_at S (setting z)) (start S) (setting z) (start-good S k z m)).law (limits (nat_abs fuel) room) nothing t c (run_of S fuel room t c e))

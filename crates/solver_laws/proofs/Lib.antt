@@ -17,5 +17,6 @@ pub mod Systems
 pub mod Accepted
 pub mod Least
 pub mod Limits
-pub mod Thirteen
+pub mod Tells
 pub mod Contexts
+pub mod Stops

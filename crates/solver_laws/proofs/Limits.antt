@@ -30,14 +30,13 @@ use Rattle.tree.specs.Trees.{Tree, split}
 use Rattle.solver.specs.declared.sign.Sign.{Sign}
 use Rattle.solver.specs.Runs.{Run}
 use Rattle.solver.specs.Rules.{Work, branch, branches, node, plenty, solving, where_form}
-use Rattle.solver.specs.Solves.{begun, fitted, form_of, numbers_fit, row_of, rows_of, run, start}
+use Rattle.solver.specs.Solves.{begun, fitted, form_of, nothing, numbers_fit, row_of, rows_of, run, start}
 use Rattle.solver.proofs.Keeping.{quots-within, sound-one, within-drop, within-zeros}
 use Rattle.tableau.proofs.Units.{length-units}
 use Rattle.solver_laws.specs.Limits.{TreeLimits}
 use Rattle.solver_laws.specs.Meaning.{Yields}
 use Rattle.solver_laws.specs.Places.{Spare, Uses}
 use Rattle.solver_laws.proofs.Accepted.{counted, run_of, system-fits, then-first, then-second}
-use Rattle.solver_laws.proofs.FuelRange.{first}
 use Rattle.solver.specs.Ties.{limits}
 use Rattle.solver_laws.proofs.Formed.{Formed, formed-new, formed-plain, formed-turn, formed-where, row-shape, row-uses}
 use Rattle.solver_laws.proofs.Induction.{Sound, rows_in, settle-sound}
@@ -265,5 +264,5 @@ tree-limits S fuel room t c e =
       parameters_most = k.parameters_most;
       keeps_most = omega (arith, length-map S.context (λ row. form_of S.p (fitted (S.p + 1) row)), k.context_most);
       keeps_fit = keeps_fit S.p S.context k.parameters_most context;
-      tree_fits = (run_fits S.n (start S) g).law (limits (nat_abs fuel) room) first t c (run_of S fuel room t c e);
+      tree_fits = (run_fits S.n (start S) g).law (limits (nat_abs fuel) room) nothing t c (run_of S fuel room t c e);
     }

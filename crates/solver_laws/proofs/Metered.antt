@@ -8,15 +8,16 @@ use Rattle.base.specs.declared.refusal.Place.TheVariants.{Node, Test}
 use Rattle.base.specs.declared.refusal.Refusal.{Refusal}
 use Rattle.base.specs.declared.refusal.Refusal.TheVariants.{FuelSpent, WorkFull}
 use Rattle.solver.specs.declared.count.Count.{Count}
-use Rattle.solver.specs.Runs.{Limits, Outcome, Run, bar, fail, met_at, next, noted, refuse, return, stepped, tick, write, ◌>>=◌, ◌>>◌}
+use Rattle.solver.specs.declared.count.Stopped.{Stopped}
+use Rattle.solver.specs.Runs.{Limits, Outcome, Run, bar, fail, met_at, next, noted, refuse, return, stepped, stopped, stopped_at, tick, write, ◌>>=◌, ◌>>◌}
 use Rattle.solver_laws.proofs.Closed.{Words}
 use Rattle.solver.specs.Ties.{limits}
 
-abbrev pub IsSpent : Refusal → Type 0
-IsSpent e = (m : Met) × (e ≡ FuelSpent m)
+abbrev pub IsSpent : Stopped → Type 0
+IsSpent s = (m : Met) × (s.why ≡ FuelSpent m)
 
 abbrev pub SpentOut : (A : Type 0) → Outcome A → Type 0
-SpentOut A o = (m : Met) × (o ≡ Err (FuelSpent m))
+SpentOut A o = (m : Met) × (c : Count) × (o ≡ Err (stopped (FuelSpent m) c))
 
 -- the outcome under the fuel f, from s steps on, and the outcome under f'
 abbrev pub Fuelled : (A : Type 0) → ℕ → ℕ → ℕ → Outcome A → Outcome A → Type 0
@@ -28,8 +29,8 @@ Metered A m = (f f' room : ℕ) (c : Count) → c.steps ≤ f → c.steps ≤ f'
 
 -- ---- the words
 -- a refusal is as it is, whatever the fuel
-pub same-refusal : (A : Type 0) (s f f' : ℕ) (e : Refusal) → Fuelled A s f f' (Err e) (Err e)
-same-refusal A s f f' e = (λ h _. (h.0, ap Err h.1), λ _ _. refl)
+pub same-refusal : (A : Type 0) (s f f' : ℕ) (e : Stopped) → Fuelled A s f f' (Err e) (Err e)
+same-refusal A s f f' e = (λ h _. (h.0, e.count, λ i. Err (stopped (h.1 i) e.count)), λ _ _. refl)
 
 -- a result with no step made
 same-steps : (A : Type 0) (a : A) (c d : Count) (f f' : ℕ) → d.steps ≡ c.steps → c.steps ≤ f → c.steps ≤ f' → Fuelled A c.steps f f' (Ok (a, d)) (Ok (a, d))
@@ -41,16 +42,16 @@ metered-return A a = λ f f' room c h h'. same-steps A a c c f f' refl h h'
 
 metered-refuse : (A : Type 0) (why : Met → Refusal) (place : Place) → Metered A (refuse why place)
 unfolding refuse
-metered-refuse A why place = λ f f' room c h h'. same-refusal A c.steps f f' (why (met_at place c))
+metered-refuse A why place = λ f f' room c h h'. same-refusal A c.steps f f' (stopped_at why place c)
 
 pub metered-fail : (A : Type 0) (e : Refusal) → Metered A (fail e)
 unfolding fail
-metered-fail A e = λ f f' room c h h'. same-refusal A c.steps f f' e
+metered-fail A e = λ f f' room c h h'. same-refusal A c.steps f f' (stopped e c)
 
 noted-same : (b : Bool) (c : Count) (f f' : ℕ) → c.steps ≤ f → c.steps ≤ f' →
-    let o : Outcome (Unit {0}) = cond b (Ok (tt, noted c)) (Err (WorkFull (met_at Node c))) in Fuelled (Unit {0}) c.steps f f' o o
+    let o : Outcome (Unit {0}) = cond b (Ok (tt, noted c)) (Err (stopped_at WorkFull Node c)) in Fuelled (Unit {0}) c.steps f f' o o
 noted-same true c f f' h h' = same-steps (Unit {0}) tt c (noted c) f f' refl h h'
-noted-same false c f f' h h' = same-refusal (Unit {0}) c.steps f f' (WorkFull (met_at Node c))
+noted-same false c f f' h h' = same-refusal (Unit {0}) c.steps f f' (stopped_at WorkFull Node c)
 
 metered-write : (place : Place) → Metered (Unit {0}) (write place)
 unfolding write
@@ -60,11 +61,11 @@ metered-write Node = λ f f' room c h h'. noted-same (ltb c.nodes room) c f f' h
 -- o where a step is left, else spent
 module _ (A : Type 0) (place : Place) (o : Outcome A) (c : Count) (f f' : ℕ) where
   abbrev spending : Bool → Outcome A
-  spending b = cond b o (Err (FuelSpent (met_at place c)))
+  spending b = cond b o (Err (stopped_at FuelSpent place c))
 
   where-left :
       (c.steps < f → c.steps < f' → Fuelled A c.steps f f' o o) →
-      (c.steps < f → f' ≤ c.steps → Fuelled A c.steps f f' o (Err (FuelSpent (met_at place c)))) →
+      (c.steps < f → f' ≤ c.steps → Fuelled A c.steps f f' o (Err (stopped_at FuelSpent place c))) →
       (b b' : Bool) → ltb c.steps f ≡ b → ltb c.steps f' ≡ b' → Fuelled A c.steps f f' (spending b) (spending b')
   where-left both one true true e e' = both (ltb-true c.steps f e) (ltb-true c.steps f' e')
   where-left both one true false e e' = one (ltb-true c.steps f e) (ltb-false c.steps f' e')
@@ -72,27 +73,27 @@ module _ (A : Type 0) (place : Place) (o : Outcome A) (c : Count) (f f' : ℕ) w
       let k : f ≤ c.steps = ltb-false c.steps f e in
       let k' : c.steps < f' = ltb-true c.steps f' e' in
       (λ _ h. absurd (let none : ⊥ = omega arith in none), λ h _. absurd (h (met_at place c, refl)))
-  where-left both one false false e e' = (λ _ _. (met_at place c, refl), λ h _. absurd (h (met_at place c, refl)))
+  where-left both one false false e e' = (λ _ _. (met_at place c, c, refl), λ h _. absurd (h (met_at place c, refl)))
 
 metered-tick : (place : Place) → Metered (Unit {0}) (tick place)
 unfolding tick
 metered-tick place = λ f f' room c h h'.
     where-left (Unit {0}) place (Ok (tt, stepped c)) c f f'
     (λ k k'. (omega arith, k, λ _. refl, λ l. absurd (let none : ⊥ = omega arith in none)))
-    (λ k k'. (omega arith, k, λ l. absurd (let none : ⊥ = omega arith in none), λ _. (met_at place c, refl)))
+    (λ k k'. (omega arith, k, λ l. absurd (let none : ⊥ = omega arith in none), λ _. (met_at place c, c, refl)))
     (ltb c.steps f) (ltb c.steps f') refl refl
 
 metered-bar : (A : Type 0) (why : Met → Refusal) (place : Place) → Metered A (bar why place)
 unfolding bar
 metered-bar A why place = λ f f' room c h h'.
-    where-left A place (Err (why (met_at place c))) c f f'
-    (λ k k'. same-refusal A c.steps f f' (why (met_at place c)))
-    (λ k k'. (λ _ _. (met_at place c, refl), λ _ l. absurd (let none : ⊥ = omega arith in none)))
+    where-left A place (Err (stopped_at why place c)) c f f'
+    (λ k k'. same-refusal A c.steps f f' (stopped_at why place c))
+    (λ k k'. (λ _ _. (met_at place c, c, refl), λ _ l. absurd (let none : ⊥ = omega arith in none)))
     (ltb c.steps f) (ltb c.steps f') refl refl
 
 -- ---- one after the other
 spent-next : (A B : Type 0) (o : Outcome A) (k : A → Run B) (l : Limits) → SpentOut A o → SpentOut B (next o k l)
-spent-next A B o k l h = (h.0, ap (λ x. next x k l) h.1)
+spent-next A B o k l h = (h.0, h.1, ap (λ x. next x k l) h.2)
 
 module _ (A B : Type 0) (s f f' room : ℕ) (o' : Outcome A) (k : A → Run B) where
   -- what comes after a result a at the count c

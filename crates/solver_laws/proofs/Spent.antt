@@ -5,24 +5,25 @@ use Rattle.base.specs.declared.refusal.Met.{Met}
 use Rattle.base.specs.declared.refusal.Place.{Place}
 use Rattle.base.specs.declared.refusal.Place.TheVariants.{Node, Test}
 use Rattle.base.specs.declared.refusal.Refusal.{Refusal}
-use Rattle.base.specs.declared.refusal.Refusal.TheVariants.{Counts, Fuel, FuelSpent, NoParameterPoint, WorkFull}
+use Rattle.base.specs.declared.refusal.Refusal.TheVariants.{Counts, Fuel, FuelSpent, NoParameterPoint, Number, WorkFull}
 use Rattle.source.specs.Limits.{counts_answer, counts_fit, first_outside, numbers_answer, refused_at}
 use Rattle.source.specs.Systems.{System}
 use Rattle.tree.specs.Trees.{Tree}
 use Rattle.solver.specs.declared.count.Count.{Count}
-use Rattle.solver.specs.Runs.{Limits, Outcome, Run, bar, fail, met_at, next, noted, refuse, return, stepped, tick, write, ◌>>=◌, ◌>>◌}
+use Rattle.solver.specs.declared.count.Stopped.{Stopped}
+use Rattle.solver.specs.Runs.{Limits, Outcome, Run, bar, fail, met_at, next, noted, refuse, return, stepped, stopped, stopped_at, tick, write, ◌>>=◌, ◌>>◌}
 use Rattle.solver.specs.Rules.{plenty}
-use Rattle.solver.specs.Solves.{fitted, fuel_fits, numbers_fit, rows_of, run, solved, start, system_fits}
+use Rattle.solver.specs.Solves.{fitted, fuel_fits, nothing, numbers_fit, rows_of, run, run_if, solved, start, system_fits}
 use Rattle.base.specs.Refusals.{and_then}
 use Rattle.solver_laws.specs.Fuel.{SpentWhole}
-use Rattle.solver_laws.proofs.FuelRange.{first, fits-ok}
+use Rattle.solver_laws.proofs.FuelRange.{fits-ok}
 use Rattle.solver.specs.Ties.{limits}
 use Rattle.solver_laws.proofs.Closed.{Grows, Other, Passes, Roots, no-path, of-run}
 
 -- an outcome from s steps on: steps only grow, and fuel is spent only where every step is made
 abbrev Exactly : (A : Type 0) → Limits → ℕ → Outcome A → Type 0
 Exactly A l s (Ok v) = (s ≤ v.1.steps) × (v.1.steps ≤ l.fuel)
-Exactly A l s (Err e) = (m : Met) → e ≡ FuelSpent m → m.steps ≡ l.fuel
+Exactly A l s (Err e) = (m : Met) → e.why ≡ FuelSpent m → m.steps ≡ l.fuel
 
 -- so it is where the fuel that is left is less than the gas
 abbrev Exact : (A : Type 0) → ℕ → Run A → Type 0
@@ -55,7 +56,7 @@ all_made : (l : Limits) (c : Count) (place : Place) → c.steps ≤ l.fuel → l
 all_made l c place h k m e = let q : met_at place c ≡ m = cc in let s : c.steps ≡ m.steps = ap (λ x. x.steps) q in omega arith
 
 module _ (A : Type 0) (l : Limits) (c : Count) (place : Place) (s : ℕ) (h : c.steps ≤ l.fuel) (o : Outcome A) (made : c.steps < l.fuel → Exactly A l s o) where
-  where-left : (b : Bool) → ltb c.steps l.fuel ≡ b → Exactly A l s (cond b o (Err (FuelSpent (met_at place c))))
+  where-left : (b : Bool) → ltb c.steps l.fuel ≡ b → Exactly A l s (cond b o (Err (stopped_at FuelSpent place c)))
   where-left true e = made (ltb-true c.steps l.fuel e)
   where-left false e = all_made l c place h (ltb-false c.steps l.fuel e)
 
@@ -65,14 +66,14 @@ exact-tick n place = λ l c h u g. where-left (Unit {0}) l c place c.steps h (Ok
 
 exact-bar : (A : Type 0) (n : ℕ) (why : Met → Refusal) (place : Place) → Other why → Exact A n (bar why place)
 unfolding bar
-exact-bar A n why place other = λ l c h u g. where-left A l c place c.steps h (Err (why (met_at place c))) (λ k m e. absurd ((other (met_at place c)).0 m e)) (ltb c.steps l.fuel) refl
+exact-bar A n why place other = λ l c h u g. where-left A l c place c.steps h (Err (stopped_at why place c)) (λ k m e. absurd ((other (met_at place c)).0 m e)) (ltb c.steps l.fuel) refl
 
 exact-write : (n : ℕ) (place : Place) → Exact (Unit {0}) n (write place)
 unfolding write
 exact-write n Test = λ l c h u g. (omega arith, h)
 exact-write n Node = λ l c h u g. go l c h (ltb c.nodes l.room)
   where
-    go : (l : Limits) (c : Count) → c.steps ≤ l.fuel → (b : Bool) → Exactly (Unit {0}) l c.steps (cond b (Ok (tt, noted c)) (Err (WorkFull (met_at Node c))))
+    go : (l : Limits) (c : Count) → c.steps ≤ l.fuel → (b : Bool) → Exactly (Unit {0}) l c.steps (cond b (Ok (tt, noted c)) (Err (stopped_at WorkFull Node c)))
     go l c h true = (omega arith, h)
     go l c h false = λ m e. absurd (no-path cc)
 
@@ -103,7 +104,7 @@ step_then : (A : Type 0) (n : ℕ) (place : Place) (k : Run A) → Exact A n k �
 unfolding tick ◌>>◌
 step_then A n place k q = λ l c h u g. go l c h u g (ltb c.steps l.fuel) refl
   where
-    go : (l : Limits) (c : Count) → c.steps ≤ l.fuel → l.fuel < plenty → l.fuel < suc n + c.steps → (b : Bool) → ltb c.steps l.fuel ≡ b → Exactly A l (suc c.steps) (next {A = Unit {0}} (cond b (Ok (tt, stepped c)) (Err (FuelSpent (met_at place c)))) (λ _. k) l)
+    go : (l : Limits) (c : Count) → c.steps ≤ l.fuel → l.fuel < plenty → l.fuel < suc n + c.steps → (b : Bool) → ltb c.steps l.fuel ≡ b → Exactly A l (suc c.steps) (next {A = Unit {0}} (cond b (Ok (tt, stepped c)) (Err (stopped_at FuelSpent place c))) (λ _. k) l)
     go l c h u g true e = q l (stepped c) (ltb-true c.steps l.fuel e) u (omega arith)
     go l c h u g false e = all_made l c place h (ltb-false c.steps l.fuel e)
 
@@ -148,10 +149,22 @@ exact-grows =
 exact-roots : Roots Always ExactTree
 exact-roots = record { grows = exact-grows; rooted = λ m p. p; wrote = exact-write plenty Node; no_parameters = exact-fail Tree plenty }
 
--- ---- the refusals of a system are others
+-- ---- the refusals before a run are others
+abbrev pub Early : Refusal → Type 0
+Early Counts = Unit {0}
+Early (Number row column) = Unit {0}
+Early Fuel = Unit {0}
+Early _ = ⊥
+
+pub early-spent : (e : Refusal) (m : Met) → Early e → ¬ (e ≡ FuelSpent m)
+early-spent e m h q = subst Early q h
+
+pub early-thirteen : (e : Refusal) → Early e → ¬ (e ≡ NoParameterPoint)
+early-thirteen e h q = subst Early q h
+
 abbrev pub Others : Result (Unit {0}) Refusal → Type 0
 Others (Ok _) = Unit {0}
-Others (Err e) = ((m : Met) → ¬ (e ≡ FuelSpent m)) × ¬ (e ≡ NoParameterPoint)
+Others (Err e) = Early e
 
 both_others : (a b : Result (Unit {0}) Refusal) → Others a → Others b → Others (and_then a b)
 both_others (Ok _) b p q = q
@@ -159,15 +172,15 @@ both_others (Err e) b p q = p
 
 others-counts : (b : Bool) → Others (cond b (Ok tt) (Err Counts))
 others-counts true = tt
-others-counts false = (λ m e. no-path cc, λ e. no-path cc)
+others-counts false = tt
 
 pub others-fuel : (b : Bool) → Others (cond b (Ok tt) (Err Fuel))
 others-fuel true = tt
-others-fuel false = (λ m e. no-path cc, λ e. no-path cc)
+others-fuel false = tt
 
 others-row : (i : ℕ) (j : Option ℕ) → Others (refused_at i j)
 others-row i None = tt
-others-row i (Some j) = (λ m e. no-path cc, λ e. no-path cc)
+others-row i (Some j) = tt
 
 others-numbers : (i : ℕ) (rows : List (List ℤ)) → Others (numbers_fit i rows)
 others-numbers i [] = tt
@@ -179,21 +192,25 @@ others-system S =
     (both_others (numbers_fit 0 (rows_of S)) _ (others-numbers 0 (rows_of S)) (others-numbers (length S.rows) (map (fitted (S.p + 1)) S.context)))
 
 -- ---- solves
-module _ (fuel : ℤ) (m : Met) where
-  whole-after : (a b : Result (Unit {0}) Refusal) (o : Outcome Tree) → Others a → Others b → (b ≡ Ok tt → o ≡ Err (FuelSpent m) → fuel ≡ pos m.steps) → and_then a (and_then b o) ≡ Err (FuelSpent m) → fuel ≡ pos m.steps
+-- why an outcome was refused
+pub why-is : {A : Type 0} (s t : Stopped) → ◌≡◌ {A = Outcome A} (Err s) (Err t) → s.why ≡ t.why
+why-is s t e = let q : s ≡ t = cc in ap (λ x. x.why) q
+
+module _ (fuel : ℤ) (m : Met) (c : Count) where
+  whole-after : (a b : Result (Unit {0}) Refusal) (o : Outcome Tree) → Others a → Others b → (b ≡ Ok tt → o ≡ Err (stopped (FuelSpent m) c) → fuel ≡ pos m.steps) → run_if a (run_if b o) ≡ Err (stopped (FuelSpent m) c) → fuel ≡ pos m.steps
   whole-after (Ok _) (Ok _) o p q h e = h refl e
-  whole-after (Ok _) (Err r) o p q h e = absurd (q.0 m cc)
-  whole-after (Err r) b o p q h e = absurd (p.0 m cc)
+  whole-after (Ok _) (Err r) o p q h e = absurd (early-spent r m q (why-is (stopped r nothing) (stopped (FuelSpent m) c) e))
+  whole-after (Err r) b o p q h e = absurd (early-spent r m p (why-is (stopped r nothing) (stopped (FuelSpent m) c) e))
 
 pub spent-whole : SpentWhole
 unfolding solved
-spent-whole S room fuel m e = whole-after fuel m (system_fits S) (fuel_fits fuel) _ (others-system S) (others-fuel _) after e
+spent-whole S room fuel m c e = whole-after fuel m c (system_fits S) (fuel_fits fuel) _ (others-system S) (others-fuel _) after e
   where
-    after : fuel_fits fuel ≡ Ok tt → run (start S) (limits (nat_abs fuel) room) first ≡ Err (FuelSpent m) → fuel ≡ pos m.steps
+    after : fuel_fits fuel ≡ Ok tt → run (start S) (limits (nat_abs fuel) room) nothing ≡ Err (stopped (FuelSpent m) c) → fuel ≡ pos m.steps
     after fits r =
         let k = fits-ok fuel fits in
         let size : nat_abs fuel ≡ k.0 = ap nat_abs k.1 in
         let most : k.0 ≤ 100_000 = k.2 in
-        let law = of-run Always ExactTree exact-roots (start S) (limits (nat_abs fuel) room) first (omega arith) (omega arith) (omega arith) in
+        let law = of-run Always ExactTree exact-roots (start S) (limits (nat_abs fuel) room) nothing (omega arith) (omega arith) (omega arith) in
         let all : m.steps ≡ nat_abs fuel = subst (Exactly Tree (limits (nat_abs fuel) room) 0) r law m refl in
         k.1 ∙ ap pos (sym size ∙ sym all)

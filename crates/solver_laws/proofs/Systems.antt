@@ -77,7 +77,7 @@ form-uses p made g few h = record { ten = ten; free = free }
 pub setting-parts : (p : ℕ) (z : List ℕ) → length z ≡ p → (length (map pos z) ≡ p) × (length (zeros (9 - length z)) ≡ 9 - p)
 setting-parts p z e = (length-map z pos ∙ e, length-zeros (9 - length z) ∙ ap (λ k. 9 - k) e)
 
-context-value : (p : ℕ) (row : List ℤ) (us vs : List ℤ) → length us ≡ p → length vs ≡ 9 - p → value_at (form_of p (fitted (p + 1) row)) (us ++ vs) ≡ dot row (us ++ (pos 1 ∷ []))
+pub context-value : (p : ℕ) (row : List ℤ) (us vs : List ℤ) → length us ≡ p → length vs ≡ 9 - p → value_at (form_of p (fitted (p + 1) row)) (us ++ vs) ≡ dot row (us ++ (pos 1 ∷ []))
 context-value p row us vs lu lv =
     form-value p (fitted (p + 1) row) us vs (omega (arith, length-fitted (p + 1) row)) lu lv
     ∙ dot-fitted (p + 1) row (us ++ (pos 1 ∷ [])) (length-append us (pos 1 ∷ []) ∙ ap (λ k. k + 1) lu)
@@ -145,7 +145,7 @@ pub context-uses : (p made : ℕ) (rows : List (List ℤ)) → p ≤ 4 → AllUs
 context-uses p made [] few = tt
 context-uses p made (row ∷ rows) few = (form-uses p made (fitted (p + 1) row) few (omega (arith, length-fitted (p + 1) row)), context-uses p made rows few)
 
-context-meets : (p : ℕ) (rows : List (List ℤ)) (z : List ℕ) → length z ≡ p → AllHold rows z → Meets (map (λ row. form_of p (fitted (p + 1) row)) rows) (setting z)
+pub context-meets : (p : ℕ) (rows : List (List ℤ)) (z : List ℕ) → length z ≡ p → AllHold rows z → Meets (map (λ row. form_of p (fitted (p + 1) row)) rows) (setting z)
 context-meets p [] z e h = tt
 context-meets p (row ∷ rows) z e h = let sp = setting-parts p z e in (rw (context-value p row (map pos z) (zeros (9 - length z)) sp.0 sp.1) h.0, context-meets p rows z e h.1)
 
@@ -153,7 +153,7 @@ pub meets-setting : (S : System) (z : List ℕ) → MeetsContext S z → Meets (
 meets-setting S z m = context-meets S.p S.context z m.counted m.holds
 
 -- a setting that meets the forms of the context has a parameter point at its front
-front-holds : (p : ℕ) (rows : List (List ℤ)) (z : List ℕ) (vs : List ℤ) → length z ≡ p → length vs ≡ 9 - p → Meets (map (λ row. form_of p (fitted (p + 1) row)) rows) (map pos z ++ vs) → AllHold rows z
+pub front-holds : (p : ℕ) (rows : List (List ℤ)) (z : List ℕ) (vs : List ℤ) → length z ≡ p → length vs ≡ 9 - p → Meets (map (λ row. form_of p (fitted (p + 1) row)) rows) (map pos z ++ vs) → AllHold rows z
 front-holds p [] z vs e lv m = tt
 front-holds p (row ∷ rows) z vs e lv m = (rw (context-value p row (map pos z) vs (length-map z pos ∙ e) lv) at m.0, front-holds p rows z vs e lv m.1)
 

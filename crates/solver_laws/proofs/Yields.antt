@@ -5,7 +5,8 @@ use Rattle.base.specs.declared.refusal.Place.{Place}
 use Rattle.base.specs.declared.refusal.Refusal.{Refusal}
 use Rattle.base.specs.declared.refusal.Refusal.TheVariants.{FuelSpent}
 use Rattle.solver.specs.declared.count.Count.{Count}
-use Rattle.solver.specs.Runs.{Limits, Outcome, Run, bar, fail, met_at, next, refuse, return, ◌>>=◌, ◌>>◌}
+use Rattle.solver.specs.declared.count.Stopped.{Stopped}
+use Rattle.solver.specs.Runs.{Limits, Outcome, Run, bar, fail, next, refuse, return, stopped_at, ◌>>=◌, ◌>>◌}
 use Rattle.solver.specs.Rules.{ranged}
 use Rattle.solver_laws.specs.Meaning.{Yields}
 
@@ -40,9 +41,9 @@ y-fail P e = yields P (fail e) (λ l c. tt)
 
 pub y-bar : {A : Type 0} (P : A → Type 0) (why : Met → Refusal) (place : Place) → Yields P (bar why place)
 unfolding bar
-y-bar {A} P why place = yields P (bar why place) (λ l c. go (ltb c.steps l.fuel) (why (met_at place c)) (FuelSpent (met_at place c)))
+y-bar {A} P why place = yields P (bar why place) (λ l c. go (ltb c.steps l.fuel) (stopped_at why place c) (stopped_at FuelSpent place c))
   where
-    go : (b : Bool) (r r' : Refusal) → IfOk (cond b (Err r) (Err r')) (λ (v : A × Count). P v.0)
+    go : (b : Bool) (r r' : Stopped) → IfOk (cond b (Err r) (Err r')) (λ (v : A × Count). P v.0)
     go true r r' = tt
     go false r r' = tt
 

@@ -5,19 +5,20 @@ use Rattle.source.specs.Systems.{MeetsContext, System}
 use Rattle.tree.specs.Trees.{Tree}
 use Rattle.solver.specs.declared.count.Count.{Count}
 use Rattle.solver.specs.Rules.{Work, sign_in, test}
-use Rattle.solver.specs.Solves.{context_of, fuel_fits, solved, system_fits}
+use Rattle.solver.specs.Runs.{stopped}
+use Rattle.solver.specs.Solves.{context_of, fuel_fits, nothing, solved, system_fits}
 use Rattle.solver_laws.specs.Meaning.{HasSetting, SignRight, Yields}
 use Rattle.solver_laws.specs.Places.{AllUse, Uses}
 
 -- refused by 13: no parameter point meets the context, however large
 abbrev pub RefusedEmpty : Type 0
-RefusedEmpty = (S : System) (fuel : ℤ) (room : ℕ) → solved S fuel room ≡ Err NoParameterPoint → (z : List ℕ) → MeetsContext S z → ⊥
+RefusedEmpty = (S : System) (fuel : ℤ) (room : ℕ) (c : Count) → solved S fuel room ≡ Err (stopped NoParameterPoint c) → (z : List ℕ) → MeetsContext S z → ⊥
 
--- and where none does, 13 is the answer, once the test of the context comes to its end
+-- and where none does, 13 is the answer, once the test of the context comes to its end, with the steps that the test made
 abbrev pub EmptyRefused : Type 0
 EmptyRefused =
     (S : System) (fuel : ℤ) (room : ℕ) → system_fits S ≡ Ok tt → fuel_fits fuel ≡ Ok tt → ((z : List ℕ) → MeetsContext S z → ⊥) →
-    (b : Bool) (c : Count) → test S.p 0 (context_of S) (record { fuel = unsigned_abs fuel; room = room }) (record { steps = 0; nodes = 0 }) ≡ Ok (b, c) → solved S fuel room ≡ Err NoParameterPoint
+    (b : Bool) (c : Count) → test S.p 0 (context_of S) (record { fuel = unsigned_abs fuel; room = room }) nothing ≡ Ok (b, c) → solved S fuel room ≡ Err (stopped NoParameterPoint c)
 
 -- a solve that is accepted has a parameter point to answer for
 abbrev pub AcceptedMet : Type 0

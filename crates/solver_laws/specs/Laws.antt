@@ -3,15 +3,16 @@ use Rattle.std.specs.Prelude.{◌≡◌, ℕ, ◌≤◌, length, ℤ, Ok, unsign
 use Rattle.source.specs.Systems.{System}
 use Rattle.tree.specs.Trees.{Tree}
 use Rattle.solver.specs.declared.count.Count.{Count}
+use Rattle.solver.specs.Runs.{end_count, steps_of}
 use Rattle.solver.specs.Solves.{solved, written}
 
--- an accepted solve makes no more steps than its fuel allows
+-- a solve makes no more steps than its fuel allows, however it ends
 abbrev pub WithinFuel : Type 0
-WithinFuel = (S : System) (fuel : ℤ) (room : ℕ) (t : Tree) (c : Count) → solved S fuel room ≡ Ok (t, c) → c.steps ≤ unsigned_abs fuel
+WithinFuel = (S : System) (fuel : ℤ) (room : ℕ) → steps_of (solved S fuel room) ≤ unsigned_abs fuel
 
 -- and writes no more nodes than the work table holds
 abbrev pub WithinRoom : Type 0
-WithinRoom = (S : System) (fuel : ℤ) (room : ℕ) (t : Tree) (c : Count) → solved S fuel room ≡ Ok (t, c) → c.nodes ≤ room
+WithinRoom = (S : System) (fuel : ℤ) (room : ℕ) → (end_count (solved S fuel room)).nodes ≤ room
 
 abbrev pub SolveLaws : Type 0
 SolveLaws = WithinFuel × WithinRoom

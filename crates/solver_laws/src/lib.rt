@@ -6,6 +6,7 @@ ghost use Rattle.solver_laws.specs.Fuel.{FuelLaw};
 ghost use Rattle.solver_laws.specs.Laws.{NodesCounted, SolveLaws};
 ghost use Rattle.solver_laws.specs.Least.{LeastPoint};
 ghost use Rattle.solver_laws.specs.Limits.{TreeLimits};
+ghost use Rattle.solver_laws.specs.Stops.{StopsTold};
 
 /// Whatever tree a solve answers gives the least point at every parameter point of its context.
 pub fn least_point_stands()
@@ -27,7 +28,12 @@ pub fn limits_stand()
     ensures { TreeLimits }
 {}
 
-/// Steps stay within the fuel, and nodes within the work table.
+/// The count of a refused solve tells the truth: its steps are those in the values of the refusal, none before the run.
+pub fn stops_stand()
+    ensures { StopsTold }
+{}
+
+/// Steps stay within the fuel, and nodes within the work table, however a solve ends.
 pub fn solve_laws_stand()
     ensures { SolveLaws }
 {}

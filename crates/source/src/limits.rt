@@ -1,7 +1,8 @@
 //! The limits of a system: how many unknowns, parameters and rows, and how large a number.
 ghost use Rattle.std.specs.Prelude.{◌≡◌, ◌<◌, ◌≤◌, length, OnOk};
 ghost use Rattle.base.specs.Numbers.{AllWithin};
-ghost use Rattle.source.specs.Limits.{counts_answer, first_outside, in_limits, numbers_answer, row_answer};
+ghost use Rattle.base.specs.Refusals.{reported};
+ghost use Rattle.source.specs.Limits.{counts_answer, first_outside, in_limits, numbers_answer, numbers_report, row_answer, row_report};
 
 use base::refusal::Refusal;
 
@@ -50,6 +51,7 @@ fn first_outside(numbers: &[i64]) -> Option<usize>
 /// row is said here alone.
 pub fn check_numbers(row: usize, numbers: &[i64]) -> Result<(), Refusal>
     ensures answer { result ≡ numbers_answer row numbers.now }
+    ensures report { reported result ≡ numbers_report row numbers.now }
     ensures small { OnOk result (AllWithin 1000000 numbers.now) }
 {
     match first_outside(numbers) {
@@ -62,6 +64,7 @@ pub fn check_numbers(row: usize, numbers: &[i64]) -> Result<(), Refusal>
 /// one whose numbers no row may have.
 pub fn check_row(numbers: &[i64], width: usize, count: usize, most: usize) -> Result<(), Refusal>
     ensures answer { result ≡ row_answer width count most numbers.now }
+    ensures report { reported result ≡ row_report width count most numbers.now }
     ensures fits { OnOk result ((length numbers.now ≡ width) × (count < most)) }
 {
     if numbers.len() != width || count >= most {

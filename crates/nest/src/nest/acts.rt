@@ -5,7 +5,8 @@ ghost use Rattle.base.specs.Forms.{dot};
 ghost use Rattle.source.specs.Systems.{entry};
 ghost use Rattle.algebra.specs.Lists.{column as column_of};
 ghost use Rattle.nest.specs.Tables.{cell_rows, in_unknowns, loop_rows, system_of};
-ghost use Rattle.nest.specs.Acts.{bounded, bound_answer, cell_answer, confine_answer, confined, meant_by, nest_of, new_answer, with_cell};
+ghost use Rattle.base.specs.Refusals.{reported};
+ghost use Rattle.nest.specs.Acts.{bounded, bound_answer, bound_report, cell_answer, cell_report, confine_answer, confine_report, confined, meant_by, nest_of, new_answer, with_cell};
 
 use super::Nest;
 use crate::numbers::{MAX_CELLS, check_given};
@@ -31,6 +32,7 @@ impl Nest {
     /// Sets the bound of loop i, from 0: a coefficient for each parameter, then the constant.
     pub fn bound(&mut self, i: usize, numbers: &[i64]) -> Result<(), Refusal>
         ensures answer { result ≡ bound_answer (nest_of self.old) i numbers.now }
+        ensures report { reported result ≡ bound_report (nest_of self.old) i numbers.now }
         ensures left { nest_of self.new ≡ bounded (nest_of self.old) i numbers.now }
     {
         check_given(numbers, self.kept.parameters() + 1, i, self.kept.unknowns())?;
@@ -44,6 +46,7 @@ impl Nest {
     /// the constant.
     pub fn cell(&mut self, numbers: &[i64]) -> Result<(), Refusal>
         ensures answer { result ≡ cell_answer (nest_of self.old) numbers.now }
+        ensures report { reported result ≡ cell_report (nest_of self.old) numbers.now }
         ensures left { nest_of self.new ≡ with_cell (nest_of self.old) numbers.now }
     {
         let width = self.kept.unknowns() + self.kept.parameters() + 1;
@@ -54,6 +57,7 @@ impl Nest {
     /// Adds a context row: a coefficient for each parameter, then the constant.
     pub fn confine(&mut self, row: &[i64]) -> Result<(), Refusal>
         ensures answer { result ≡ confine_answer (nest_of self.old) row.now }
+        ensures report { reported result ≡ confine_report (nest_of self.old) row.now }
         ensures left { nest_of self.new ≡ confined (nest_of self.old) row.now }
     {
         self.kept.confine(row)

@@ -1,6 +1,7 @@
 //! What a row source does.
 ghost use Rattle.std.specs.Prelude.{◌≡◌, ◌≤◌, length, take};
-ghost use Rattle.source.specs.Enters.{enter_answer, entered, confine_answer, confined};
+ghost use Rattle.base.specs.Refusals.{reported};
+ghost use Rattle.source.specs.Enters.{enter_answer, enter_report, entered, confine_answer, confine_report, confined};
 ghost use Rattle.source.specs.RowSources.{meaning_of, meant, new_answer};
 
 use super::RowSource;
@@ -26,6 +27,7 @@ impl RowSource {
     /// Adds a row: a coefficient for each unknown, then for each parameter, then the constant.
     pub fn enter(&mut self, row: &[i64]) -> Result<(), Refusal>
         ensures answer { result ≡ enter_answer (meaning_of self.old) row.now }
+        ensures report { reported result ≡ enter_report (meaning_of self.old) row.now }
         ensures left { meaning_of self.new ≡ entered (meaning_of self.old) row.now }
     {
         self.rows.give(row)
@@ -34,6 +36,7 @@ impl RowSource {
     /// Adds a context row: a coefficient for each parameter, then the constant.
     pub fn confine(&mut self, row: &[i64]) -> Result<(), Refusal>
         ensures answer { result ≡ confine_answer (meaning_of self.old) row.now }
+        ensures report { reported result ≡ confine_report (meaning_of self.old) row.now }
         ensures left { meaning_of self.new ≡ confined (meaning_of self.old) row.now }
     {
         self.context.give(row)

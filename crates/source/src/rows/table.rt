@@ -19,7 +19,8 @@ pub struct Rows<const WIDEST: usize, const MOST: usize> {
 
 impl<const WIDEST: usize, const MOST: usize> Rows<WIDEST, MOST> {
     ghost use Rattle.source.specs.Systems.{entry};
-    ghost use Rattle.source.specs.Limits.{row_answer};
+    ghost use Rattle.base.specs.Refusals.{reported};
+    ghost use Rattle.source.specs.Limits.{row_answer, row_report};
     ghost use Rattle.source.specs.RowSources.{given, joined};
 
     /// No rows yet.
@@ -39,6 +40,7 @@ impl<const WIDEST: usize, const MOST: usize> Rows<WIDEST, MOST> {
     /// no row may have.
     pub(crate) fn give(&mut self, row: &[i64]) -> Result<(), Refusal>
         ensures answer { result ≡ row_answer self.old.width (length (given self.old)) MOST row.now }
+        ensures report { reported result ≡ row_report self.old.width (length (given self.old)) MOST row.now }
         ensures left { given self.new ≡ joined (given self.old) row.now result }
         ensures width { self.new.width ≡ self.old.width }
     {

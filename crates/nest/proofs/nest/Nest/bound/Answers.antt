@@ -33,6 +33,7 @@ returns c =
     let a : Ok tt ≡ bound_answer (nest_of s) i numbers = g.answer ∙ rw (c.parameters.ensures.value, c.unknowns.ensures.value) refl in
     record {
       answer = a;
+      report = g.report ∙ rw (c.parameters.ensures.value, c.unknowns.ensures.value) refl;
       left =
           written s i c.copy_front.new.places numbers e c.copy_front.ensures.value
           ∙ ap (λ (r : Result (Unit {0}) Refusal). cond (is_ok r) (with_bound (nest_of s) i numbers) (nest_of s)) a;
