@@ -4,14 +4,15 @@ use borrow.Author.Differences.{ints}
 use Rattle.base.specs.declared.refusal.Met.{Met}
 use Rattle.base.specs.declared.refusal.Refusal.{Refusal}
 use Rattle.base.specs.declared.refusal.Refusal.TheVariants.{Counts, Number, NoParameterPoint, RowShape, NestShape, Listing, Fuel, WorkFull, StoreFull, FuelSpent, StoreClosed, Range, Cuts, NewParameters, Depth, NoTree, PointLength, PointNumber, OutsideKeep, BeyondBound, PageLength, PageKind, PageNumber, PageDepth}
-use Rattle.base.specs.Refusals.{report_of}
+use Rattle.base.specs.declared.refusal.Report.{Report}
+use Rattle.base.specs.declared.refusal.Values.{Values}
+use Rattle.base.specs.Refusals.{met, refused, report_of, reported}
 use Rattle.source.specs.Systems.{System}
-use Rattle.store.specs.Stores.{Costs, Meaning, install_answer, used}
+use Rattle.store.specs.Stores.{Meaning, install_answer, used}
 use Rattle.tree.specs.Trees.{Tree}
 use Rattle.solver.specs.declared.count.Count.{Count}
-use Rattle.solver.specs.declared.count.Stopped.{Stopped}
 use Rattle.solver.specs.declared.run.Solved.{Solved}
-use Rattle.solver.specs.Runs.{Outcome, stopped}
+use Rattle.solver.specs.Runs.{Outcome, steps_of, stopped}
 use Rattle.solver.specs.Solves.{solve_answer, solved, work_after, written}
 use Rattle.solver_laws.specs.Fuel.{Spent}
 use Rattle.solver_laws.proofs.Closed.{no-path}
@@ -57,6 +58,13 @@ number-24 (PageKind o) h = absurd (let no : ⊥ = omega (arith, h) in no)
 number-24 (PageNumber o) h = absurd (let no : ⊥ = omega (arith, h) in no)
 number-24 (PageDepth o) h = absurd (let no : ⊥ = omega (arith, h) in no)
 
+answer-24 : (r : Result Solved Refusal) (v : Values) → reported r ≡ refused 24 v → (k : Met) × (r ≡ Err (FuelSpent k))
+answer-24 (Ok x) v h = absurd (no-path cc)
+answer-24 (Err e) v h = let n : (report_of e).number ≡ 24 = number-as (report_of e) v h in let k = number-24 e n in (k.0, ap Err k.1)
+  where
+    number-as : (r : Report) (v : Values) → ◌≡◌ {A = Result Solved Report} (Err r) (refused 24 v) → r.number ≡ 24
+    number-as r v h = cc
+
 module _ (m : Meaning) (S : System) where
   -- accepted on the sheet: accepted by the rules
   pub accepted : (o : Outcome Tree) (v : Solved) → solve_answer (held m S o) ≡ Ok v → (w : Tree × Count) × (o ≡ Ok w) × (held m S o ≡ Ok w) × (v ≡ counted w.1)
@@ -74,7 +82,7 @@ module _ (m : Meaning) (S : System) where
       go : (b : Bool) → solve_answer (after_install (cond b (Ok tt) (Err StoreFull)) w) ≡ Err (FuelSpent k) → ⊥
       go true e = no-path cc
       go false e = no-path cc
-  spent (Err r) k e = let why : r.why ≡ FuelSpent k = cc in (k, (r.count, ap (λ y. Err (stopped y r.count)) why))
+  spent (Err r) k e = let why : r.why ≡ FuelSpent k = cc in (k, r.count, ap (λ y. Err (stopped y r.count)) why)
 
 -- solves that the same store gives
 module _ (m : Meaning) (s r : Solve) (gs : Gives m (solve s)) (gr : Gives m (solve r)) (a : Alike s r) where
@@ -88,13 +96,13 @@ module _ (m : Meaning) (s r : Solve) (gs : Gives m (solve s)) (gr : Gives m (sol
   left-r = gr.1 ∙ ap₂ (λ X n. work_after X n (solved_here m X r.fuel n)) (sym a.systems) (sym a.rooms)
 
   spent-too : Spent (solved s.system r.fuel s.room) → IsSpent r
-  spent-too q = (FuelSpent q.0, (at_r ∙ ap (λ o. solve_answer (held m s.system o)) q.1.1, refl))
+  spent-too q = (met q.0, ap reported (at_r ∙ ap (λ o. solve_answer (held m s.system o)) q.2))
 
   same-outcome : (o : Outcome Tree) → solved s.system s.fuel s.room ≡ o → solved s.system r.fuel s.room ≡ o → solved_here m s.system r.fuel s.room ≡ solved_here m s.system s.fuel s.room
   same-outcome o p q = ap (held m s.system) (q ∙ sym p)
 
   is-spent : IsSpent s → Spent (solved s.system s.fuel s.room)
-  is-spent (e, (h, n)) = let k = number-24 e n in spent m s.system (solved s.system s.fuel s.room) k.0 (sym gs.0 ∙ h ∙ ap Err k.1)
+  is-spent (v, h) = let k = answer-24 s.answer v h in spent m s.system (solved s.system s.fuel s.room) k.0 (sym gs.0 ∙ k.1)
 
   -- with the outcome of s, r answers as s does
   as-s : solved_here m s.system r.fuel s.room ≡ solved_here m s.system s.fuel s.room → r.answer ≡ s.answer
@@ -103,10 +111,10 @@ module _ (m : Meaning) (s r : Solve) (gs : Gives m (solve s)) (gr : Gives m (sol
   -- refused with more fuel, as the rules say or because the same tree does not fit
   refused-too : (o : Outcome Tree) → solved s.system s.fuel s.room ≡ o → ¬ IsSpent s → pos 0 ≤ℤ s.fuel → s.fuel ≤ℤ r.fuel → r.fuel ≤ℤ pos 100_000 → r.answer ≡ s.answer
   refused-too (Ok w) p h low more most =
-      let within = within-fuel s.system s.fuel s.room w.0 w.1 p in
+      let within = subst (λ (o : Outcome Tree). steps_of o ≤ nat_abs s.fuel) p (within-fuel s.system s.fuel s.room) in
       as-s (same-outcome (Ok w) p (enough s.system s.room s.fuel r.fuel w.0 w.1 p (steps-under w.1.steps s.fuel r.fuel low within more) most))
   refused-too (Err t) p h low more most =
-      as-s (same-outcome (Err t) p (more-refused s.system s.room s.fuel r.fuel t p (λ q. h (FuelSpent q.0, (gs.0 ∙ ap (λ o. solve_answer (held m s.system o)) q.1.1, refl))) low more most))
+      as-s (same-outcome (Err t) p (more-refused s.system s.room s.fuel r.fuel t p (λ q. h (met q.0, ap reported (gs.0 ∙ ap (λ o. solve_answer (held m s.system o)) q.2))) low more most))
 
   pub solves-right : SolvesRight s r
   solves-right = record {

@@ -1,9 +1,11 @@
 -- What the store lists is the tree of the standing system, and so finds are right.
-use Rattle.std.proofs.Common.{◌≡◌, ℕ, List, [], ◌∷◌, map, ℤ, pos, nat_abs, Some, None, Ok, Err, Option, Result, IsOk, sym, refl, ap, ◌∙◌, subst, inl, inr}
+use Rattle.std.proofs.Common.{◌≡◌, ℕ, List, [], ◌∷◌, map, ℤ, pos, Some, None, Ok, Err, Option, Result, IsOk, sym, refl, ap, ◌∙◌, subst, inl, inr}
 use Rattle.base.specs.declared.refusal.Refusal.{Refusal}
 use Rattle.base.specs.declared.refusal.Refusal.TheVariants.{NoTree, OutsideKeep, PointLength, PointNumber}
-use Rattle.base.specs.Refusals.{Report, report_of}
-use Rattle.source.specs.Systems.{MeetsContext, Point, System}
+use Rattle.base.specs.declared.refusal.Report.{Report}
+use Rattle.base.specs.declared.refusal.Values.TheVariants.{None as NoValues}
+use Rattle.base.specs.Refusals.{report_of, reported}
+use Rattle.source.specs.Systems.{MeetsContext, System}
 use Rattle.store.specs.Stores.{Meaning, install_answer}
 use Rattle.tree.specs.Answers.{answer_at}
 use Rattle.tree.specs.Finds.{found_in, left_of, said_of, six_numbers}
@@ -21,7 +23,7 @@ use Rattle.sheet.specs.Sheets.{after_install, held, replaced}
 use Rattle.sheet.specs.Events.{Event, Find, find, solve, wipe, standing_after, standing_by}
 use Rattle.sheet.specs.Arrangements.{Gives, Made, after, after_all}
 use Rattle.sheet.specs.Laws.{FindRight, Refuses}
-use Rattle.sheet.proofs.Asking.{Way, answered, far, long, outside, sizes, way}
+use Rattle.sheet.proofs.Asking.{Way, answered, far, long, outside, way}
 
 -- the nodes are those of a tree that some solve of the system answers
 pub record TreeOf (S : System) (m : Meaning) : Type 0 where
@@ -62,14 +64,14 @@ not-ok (Err x) e q h = no-path cc
 
 -- a number without values
 abbrev plain : ℕ → Report
-plain n = record { number = n; values = [] }
+plain n = record { number = n; values = NoValues }
 
 module _ (S : System) (f : Find) where
   -- where the rules refuse it by one number alone, and it is refused so
   refused-right : (e : Refusal) (number : ℕ) → report_of e ≡ plain number → Refuses (Some S) f.point number → ((n : ℕ) → Refuses (Some S) f.point n → n ≡ number) → f.answer ≡ Err e → FindRight (Some S) f
-  refused-right e number is so only q = record {
+  refused-right e number is so only q = let same : (x : Refusal) → f.answer ≡ Err x → e ≡ x = λ x p. cc in record {
     named = λ p. absurd (no-path cc);
-    refused = record { only = λ x p. (number, ((e, (q, is)), so)); whenever = λ n h. (e, (q, is ∙ ap plain (sym (only n h)))) };
+    refused = record { only = λ x p. (number, (ap report_of (sym (same x p)) ∙ is, so)); whenever = λ n h. ap reported q ∙ ap Err (is ∙ ap plain (sym (only n h))) };
     none = λ ok. absurd (not-ok f.answer e q ok);
   }
 
@@ -115,9 +117,10 @@ module _ (S : System) (f : Find) where
 pub find-right : (now : Option System) (m : Meaning) → Stands now m → (f : Find) → Gives m (find f) → FindRight now f
 find-right None m h f g =
     let said : f.answer ≡ Err NoTree = g.0 ∙ ap (λ xs. said_of (found_in xs f.point)) h in
+    let same : (x : Refusal) → f.answer ≡ Err x → NoTree ≡ x = λ x p. cc in
     record {
       named = λ q. no-path cc;
-      refused = record { only = λ e q. (41, ((NoTree, (said, refl)), refl)); whenever = λ n q. (NoTree, (said, ap plain (sym q))) };
+      refused = record { only = λ e q. (41, (ap report_of (sym (same e q)), refl)); whenever = λ n q. ap reported said ∙ ap Err (ap plain (sym q)) };
       none = not-ok f.answer NoTree said;
     }
 find-right (Some S) m h f g =

@@ -2,7 +2,9 @@
 use Rattle.std.specs.Prelude.{◌≡◌, ◌≢◌, ℕ, ◌⊎◌, ◌↔◌, List, [], ◌∷◌, ◌++◌, map, length, ℤ, pos, ◌≤ℤ◌, ◌<ℤ◌, Some, None, Ok, Err, Option, IsOk}
 use Rattle.std.specs.List.{AllByRecursion}
 use Rattle.base.specs.declared.refusal.Refusal.{Refusal}
-use Rattle.base.specs.Refusals.{report_of}
+use Rattle.base.specs.declared.refusal.Values.{Values}
+use Rattle.base.specs.declared.refusal.Values.TheVariants.{None as NoValues}
+use Rattle.base.specs.Refusals.{refused, report_of, reported}
 use Rattle.source.specs.Systems.{MeetsContext, Point, Precedes, System}
 use Rattle.tree.specs.declared.walk.Found.TheVariants.{Point as APoint, None as NoPoint}
 use Rattle.tree.specs.Finds.{six_numbers}
@@ -44,14 +46,10 @@ Refuses (Some S) point number =
     ⊎ (((length point ≡ S.p) × ((¬ InRange point) × (number ≡ 43)))
     ⊎ ((length point ≡ S.p) × (InRange point × (OutsideContext S point × (number ≡ 44)))))
 
--- it is refused by this number, which comes with no values
-abbrev pub FindRefused : ℕ → Find → Type 0
-FindRefused number f = (e : Refusal) × ((f.answer ≡ Err e) × (report_of e ≡ record { number = number; values = [] }))
-
--- a find is refused exactly when the rules say so, and by just that number
+-- a find is refused exactly when the rules say so, by just that number, which comes with no values
 pub record RefusedRight (now : Option System) (f : Find) : Type 0 where
-  pub only : (e : Refusal) → f.answer ≡ Err e → (number : ℕ) × (FindRefused number f × Refuses now f.point number)
-  pub whenever : (number : ℕ) → Refuses now f.point number → FindRefused number f
+  pub only : (e : Refusal) → f.answer ≡ Err e → (number : ℕ) × ((report_of e ≡ record { number = number; values = NoValues }) × Refuses now f.point number)
+  pub whenever : (number : ℕ) → Refuses now f.point number → reported f.answer ≡ refused number NoValues
 
 -- not refused, it says none exactly when the standing system has no point there
 abbrev pub NoneRight : Option System → Find → Type 0
@@ -71,7 +69,7 @@ pub record Alike (s r : Solve) : Type 0 where
 
 -- refused by 24, with whatever values
 abbrev pub IsSpent : Solve → Type 0
-IsSpent s = (e : Refusal) × ((s.answer ≡ Err e) × ((report_of e).number ≡ 24))
+IsSpent s = (values : Values) × (reported s.answer ≡ refused 24 values)
 
 -- s is accepted: r, with fuel within the limit, gives the same steps, nodes and tree if its fuel is at least those steps; otherwise it is spent
 abbrev pub AcceptedAlike : Solve → Solve → Type 0

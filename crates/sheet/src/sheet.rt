@@ -112,7 +112,8 @@ impl<T: Store> Sheet<T> {
         ensures right { NextSolve self.old (record { system = S.meaning source.now; room = length work.old; fuel = fuel; answer = result; work = work.new }) }
         ensures law { LeadsOn self.old (solve_made (record { system = S.meaning source.now; room = length work.old; fuel = fuel; answer = result; work = work.new }) ∷ []) self.new }
     {
-        self.solve_counted(source, work, fuel).map_err(|stopped| stopped.why)
+        self.solve_counted(source, work, fuel)
+            .map_err(|stopped| stopped.why)
     }
 
     /// As `solve`; a refusal comes with the steps and nodes counted by then.

@@ -1,4 +1,4 @@
-use Rattle.std.proofs.Common.{◌≡◌, length, sym, refl, ap, ap₂, ◌∙◌, subst, w64, SFits, rules}
+use Rattle.std.proofs.Common.{length, sym, refl, ap, ◌∙◌, subst, w64, SFits, rules}
 use Rattle.std.proofs.lemmas.Int.{to_z-of_z}
 use Rattle.solver.specs.Solves.{solve_answer, work_after}
 use Rattle.sheet.specs.Sheets.{replaced, solved_here}
