@@ -10,6 +10,8 @@ mod page_stores;
 #[cfg(test)]
 mod questions;
 #[cfg(test)]
+mod sheets;
+#[cfg(test)]
 mod solves;
 #[cfg(test)]
 mod stores;

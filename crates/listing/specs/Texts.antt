@@ -39,9 +39,16 @@ abbrev pub unknowns_of : List Node → ℕ
 unknowns_of [] = 0
 unknowns_of (node ∷ nodes) = unknowns_in node
 
--- a tree: its nodes, then the steps
+-- a tree: its nodes
+abbrev pub tree_lines : List Node → List ℕ
+tree_lines nodes = flat_map (node_text (unknowns_of nodes)) nodes
+
+abbrev pub steps_line : ℕ → List ℕ
+steps_line steps = codes "steps " ++ (decimal steps ++ codes "\n")
+
+-- a tree, then the steps
 abbrev pub tree_text : List Node → ℕ → List ℕ
-tree_text nodes steps = flat_map (node_text (unknowns_of nodes)) nodes ++ (codes "steps " ++ (decimal steps ++ codes "\n"))
+tree_text nodes steps = tree_lines nodes ++ steps_line steps
 
 abbrev pub refusal_text : Refusal → List ℕ
 refusal_text refusal = codes "refused " ++ (decimal (report_of refusal).number ++ codes "\n")

@@ -1,13 +1,21 @@
 //! Showing an answer.
 ghost use Rattle.std.specs.Prelude.{◌≡◌, take, Some};
 ghost use Rattle.std.specs.List.{flat_map};
-ghost use Rattle.listing.specs.Texts.{line, node_text, point, refusal_text, tree_text, unknowns_of};
+ghost use Rattle.listing.specs.Texts.{line, node_text, point, refusal_text, steps_line, tree_lines, tree_text, unknowns_of};
 
 use base::refusal::Refusal;
 use std::fmt;
 use tree::node::{Node, NodeForm};
 
-/// A tree as text: a line for each node, and the steps made.
+/// The lines of a tree: one for each node, and after a leaf one for each unknown.
+#[derive(Drop)]
+pub struct TreeLines<'a>(pub &'a [Node]);
+
+/// The line of the steps made.
+#[derive(Clone, Copy)]
+pub struct StepsLine(pub u32);
+
+/// A solve as text: the tree's lines, and the steps made.
 #[derive(Drop)]
 pub struct TreeText<'a> {
     pub nodes: &'a [Node],
@@ -87,16 +95,31 @@ fn unknowns_of(nodes: &[Node]) -> u8
     }
 }
 
+impl fmt::Display for TreeLines<'_> {
+    ghost output = { λ x. Some (tree_lines x.0.now) };
+
+    fn fmt<W: fmt::Write>(&self, f: &mut fmt::Formatter<W>) -> fmt::Result {
+        let unknowns = unknowns_of(self.0);
+        for node in self.0 {
+            write!(f, "{}", Lines { node, unknowns })?;
+        }
+        Ok(())
+    }
+}
+
+impl fmt::Display for StepsLine {
+    ghost output = { λ x. Some (steps_line x.0) };
+
+    fn fmt<W: fmt::Write>(&self, f: &mut fmt::Formatter<W>) -> fmt::Result {
+        writeln!(f, "steps {}", self.0)
+    }
+}
+
 impl fmt::Display for TreeText<'_> {
     ghost output = { λ x. Some (tree_text x.nodes.now x.steps) };
 
     fn fmt<W: fmt::Write>(&self, f: &mut fmt::Formatter<W>) -> fmt::Result {
-        let unknowns = unknowns_of(self.nodes);
-        for node in self.nodes {
-            write!(f, "{}", Lines { node, unknowns })?;
-        }
-        let steps = self.steps;
-        writeln!(f, "steps {steps}")
+        write!(f, "{}{}", TreeLines(self.nodes), StepsLine(self.steps))
     }
 }
 

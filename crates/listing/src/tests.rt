@@ -3,8 +3,10 @@ use crate::read::{LONGEST, read};
 use crate::show::{RefusalText, TreeText};
 use crate::solve::solve_text;
 use base::refusal::{Met, Place, Refusal};
+use sheet::sheet::Sheet;
 use source::source::Source;
 use std::test::Fail;
+use store::node_store::NodeStore;
 use tree::node::Node;
 
 /// By which refusal a listing is refused.
@@ -141,8 +143,10 @@ fn a_refusal_is_shown(rt: HostRuntime) -> Result<(), Fail> {
 
 #[test]
 fn fuel_is_spent_in_a_test(rt: HostRuntime) -> Result<(), Fail> {
+    let table = vec![in rt.alloc(); Node::None; 64]?;
+    let mut sheet = Sheet::new(NodeStore::new(table));
     let mut work = [Node::None; 64];
-    match solve_text(b"1 1 1 0 11 2 -1 0", &mut work) {
+    match solve_text(&mut sheet, b"1 1 1 0 11 2 -1 0", &mut work) {
         Err(refusal) => {
             assert_eq!(rt;
                 refusal,
@@ -159,8 +163,10 @@ fn fuel_is_spent_in_a_test(rt: HostRuntime) -> Result<(), Fail> {
 
 #[test]
 fn a_work_table_of_four_nodes_is_full(rt: HostRuntime) -> Result<(), Fail> {
+    let table = vec![in rt.alloc(); Node::None; 64]?;
+    let mut sheet = Sheet::new(NodeStore::new(table));
     let mut work = [Node::None; 4];
-    match solve_text(b"1 1 1 0 12 2 -1 0", &mut work) {
+    match solve_text(&mut sheet, b"1 1 1 0 12 2 -1 0", &mut work) {
         Err(refusal) => {
             assert_eq!(rt;
                 refusal,

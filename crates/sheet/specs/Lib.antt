@@ -2,4 +2,5 @@ pub mod Sheets
 pub mod Events
 pub mod Arrangements
 pub mod Laws
+pub mod Paged
 pub mod Logs

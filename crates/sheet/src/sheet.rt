@@ -1,5 +1,5 @@
 //! The sheet.
-ghost use Rattle.std.specs.Prelude.{◌≡◌, [], ◌∷◌, IfErr, length, replicate};
+ghost use Rattle.std.specs.Prelude.{◌≡◌, [], ◌∷◌, IfErr, IfOk, length, replicate};
 ghost use Rattle.tree.specs.declared.node.Node.TheVariants.{None as Blank};
 ghost use Rattle.store.specs.Stores.{node_at};
 ghost use Rattle.tree.specs.Finds.{found_in, left_of, said_of};
@@ -9,6 +9,7 @@ ghost use Rattle.sheet.specs.Sheets.{emptied, replaced, solved_here, uncounted};
 ghost use Rattle.sheet.specs.Events.{find as find_made, solve as solve_made, wipe as wipe_made};
 ghost use Rattle.sheet.specs.Arrangements.{LeadsTo, Reached};
 ghost use Rattle.sheet.specs.Laws.{LeadsOn, NextFind, NextSolve, RefusalTold};
+ghost use Rattle.sheet.specs.Paged.{PageStands, RepliesAlike};
 
 use base::refusal::Refusal;
 use solver::count::{Count, Stopped};
@@ -110,6 +111,7 @@ impl<T: Store> Sheet<T> {
         ensures work { work.new ≡ work_after (S.meaning source.now) (length work.old) (solved_here self.old (S.meaning source.now) fuel (length work.old)) }
         ensures left { self.new ≡ replaced self.old (S.meaning source.now) (solved_here self.old (S.meaning source.now) fuel (length work.old)) }
         ensures reached { ∥ Reached self.new ∥₁ }
+        ensures page { IfOk result (λ v. PageStands self.new.nodes v.nodes) }
         ensures right { NextSolve self.old (record { system = S.meaning source.now; room = length work.old; fuel = fuel; answer = result; work = work.new }) }
         ensures law { LeadsOn self.old (solve_made (record { system = S.meaning source.now; room = length work.old; fuel = fuel; answer = result; work = work.new }) ∷ []) self.new }
     {
@@ -127,6 +129,7 @@ impl<T: Store> Sheet<T> {
         ensures answer { result ≡ counted_answer (solved_here self.old (S.meaning source.now) fuel (length work.old)) }
         ensures work { work.new ≡ work_after (S.meaning source.now) (length work.old) (solved_here self.old (S.meaning source.now) fuel (length work.old)) }
         ensures left { self.new ≡ replaced self.old (S.meaning source.now) (solved_here self.old (S.meaning source.now) fuel (length work.old)) }
+        ensures page { IfOk result (λ v. PageStands self.new.nodes v.nodes) }
         ensures told { IfErr result (RefusalTold (S.meaning source.now) fuel (length work.old)) }
         ensures reached { ∥ Reached self.new ∥₁ }
         ensures right { NextSolve self.old (record { system = S.meaning source.now; room = length work.old; fuel = fuel; answer = uncounted result; work = work.new }) }
@@ -140,6 +143,7 @@ impl<T: Store> Sheet<T> {
         ensures answer { result ≡ said_of (found_in self.now.nodes point.now) }
         ensures left { place.new ≡ left_of (found_in self.now.nodes point.now) }
         ensures reached { ∥ Reached self.now ∥₁ }
+        ensures page { RepliesAlike self.now (record { point = point.now; answer = result; place = place.new }) }
         ensures right { NextFind self.now (record { point = point.now; answer = result; place = place.new }) }
         ensures law { LeadsOn self.now (find_made (record { point = point.now; answer = result; place = place.new }) ∷ []) self.now }
     {

@@ -1,19 +1,28 @@
-use Rattle.std.proofs.Common.{◌≡◌, ◌-◌, take, replicate, IfOk, string_bytes, ap, ◌∙◌, subst, rules}
-use Rattle.tree.specs.declared.node.Node.TheVariants.{None as Blank}
-use Rattle.listing.specs.Solving.{answer_text, shown_by, work_left}
-use Rattle.listing.specs.Texts.{tree_text}
-use Rattle.listing.proofs.SolveSteps.{take_within}
+use Rattle.std.proofs.Common.{◌≡◌, ◌≤◌, IfOk, string_bytes, vec_len, subst, ap, ◌∙◌, rules}
+use Rattle.store.specs.Stores.{Meaning}
+use Rattle.store.specs.NodeStores.{unit_costs}
+use Rattle.listing.specs.Texts.{refusal_text, tree_text}
+use Rattle.listing.proofs.SolveSteps.{refusal-shown, tree-shown}
 use Rattle.listing.proofs.solve.answer_text.Goals as goal
 
 pub returns-in-Ok : goal.returns-in-Ok
 returns-in-Ok c =
-    let text = c.args.text.now in
-    let z = c.solve_text.new.work in
-    let s = c.in-Ok.solved in
-    let m : IfOk c.to_string.result (λ t. string_bytes t ≡ tree_text (take (c.min.result - 0) z) s.steps) = c.to_string.ensures.ok in
-    let a = c.in-Ok.ensures.answer in
-    let l : z ≡ work_left text (replicate 64 Blank) = c.in-Ok.ensures.left in
-    let cut : take (c.min.result - 0) z ≡ take s.nodes z = take_within c.min.result s.nodes 64 z (search rules) c.min.ensures in
-    let e : tree_text (take (c.min.result - 0) z) s.steps ≡ answer_text text =
-    ap (λ xs. tree_text xs s.steps) (cut ∙ ap (take s.nodes) l) ∙ ap (λ r. shown_by r (work_left text (replicate 64 Blank))) a in
-    record { made = subst (λ bs. IfOk c.to_string.result (λ t. string_bytes t ≡ bs)) e m }
+    let m : Meaning = c.new-sheet.result in
+    let is = c.new-sheet.ensures.made in
+    let costs : m.costs ≡ unit_costs = ap (λ (k : Meaning). k.costs) is ∙ ap (λ (k : Meaning). k.costs) c.new.ensures.answer in
+    let capacity : m.capacity ≡ vec_len c.in_ok-table.table = ap (λ (k : Meaning). k.capacity) is ∙ ap (λ (k : Meaning). k.capacity) c.new.ensures.answer in
+    let units : 64 ≤ m.capacity = search rules in
+    let shown : IfOk c.to_string.result (λ t. string_bytes t ≡ tree_text c.as_slice.result.now c.in-Ok.solved.steps) = c.to_string.ensures.ok in
+    let e = tree-shown m costs units c.args.text.now c.in-Ok.solved c.as_slice.result.now c.in-Ok.ensures.answer (search rules) in
+    record { made = subst (λ bs. IfOk c.to_string.result (λ t. string_bytes t ≡ bs)) e shown }
+
+pub returns : goal.returns
+returns c =
+    let m : Meaning = c.new-sheet.result in
+    let is = c.new-sheet.ensures.made in
+    let costs : m.costs ≡ unit_costs = ap (λ (k : Meaning). k.costs) is ∙ ap (λ (k : Meaning). k.costs) c.new.ensures.answer in
+    let capacity : m.capacity ≡ vec_len c.in_ok-table.table = ap (λ (k : Meaning). k.capacity) is ∙ ap (λ (k : Meaning). k.capacity) c.new.ensures.answer in
+    let units : 64 ≤ m.capacity = search rules in
+    let e = refusal-shown m costs units c.args.text.now c.in-Err.refusal c.in-Err.ensures.answer in
+    let shown : IfOk c.to_string-in-Err.result (λ t. string_bytes t ≡ refusal_text c.in-Err.refusal) = c.to_string-in-Err.ensures.ok in
+    record { made = subst (λ bs. IfOk c.to_string-in-Err.result (λ t. string_bytes t ≡ bs)) e shown }
