@@ -23,7 +23,7 @@ use Rattle.sheet.specs.Events.{Find}
 use Rattle.sheet.specs.Laws.{FindRight, InRange, RefusedRight}
 use Rattle.sheet.proofs.Arranged.{next-find}
 use Rattle.postings.specs.Latest.{found_turned, latest_in, left_of, turned}
-use Rattle.postings.specs.Laws.{LatestRight, NextLatest}
+use Rattle.postings.specs.Laws.{LatestRight, RightWhereStanding}
 
 -- ---- a find that is not refused
 in-range-askable : (z : List ℕ) → InRange (map pos z) → Askable z
@@ -107,11 +107,11 @@ module _ (L : Loops) (s : Shaped L) (point : List ℤ) where
         otherwise = λ h. absurd (h refl);
       })
 
-pub next-latest : (m : Meaning) (L : Loops) → Shaped L → (point : List ℤ) (a : Result Found Refusal) (place : List ℤ) →
-    a ≡ said_of (latest_in m.nodes L point) → place ≡ left_of (latest_in m.nodes L point) → NextLatest m L (record { point = point; answer = a; place = place })
-next-latest m L s point a place p q before leads stands =
+pub latest-right : (m : Meaning) (L : Loops) → Shaped L → (point : List ℤ) (a : Result Found Refusal) (place : List ℤ) →
+    a ≡ said_of (latest_in m.nodes L point) → place ≡ left_of (latest_in m.nodes L point) → RightWhereStanding L m (record { point = point; answer = a; place = place })
+latest-right m L s point a place p q k =
     let o = found_in m.nodes point in
     let f = found L s point o in
-    let r = subst (λ now. FindRight now f) stands (next-find m f (refl, refl) before leads) in
+    let r = subst (λ now. FindRight now f) k.stands (next-find m f (refl, refl) k.events k.leads) in
     subst (λ y. LatestRight L (record { point = point; answer = a; place = y })) (sym q)
     (subst (λ x. LatestRight L (record { point = point; answer = x; place = left_of (latest_in m.nodes L point) })) (sym p) (right L s point o r))

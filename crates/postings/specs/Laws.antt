@@ -27,20 +27,21 @@ NeverPosted L z = (c : List ℕ) → ¬ Posting L z c
 abbrev pub NoneRight : Loops → Find → Type 0
 NoneRight L q = IsOk q.answer → (z : List ℕ) × ((q.point ≡ map pos z) × ((q.answer ≡ Ok NoPosting) ↔ NeverPosted L z))
 
--- A question with its point, its answer and the place of six as it was left: a posting that it names is the latest; it says none
--- exactly when there is none; and the rules for a find in the nest's system refuse it, by 42, 43 or 44, or nothing does.
+-- A question by its point, its answer and the place of six as it was left: a posting that it names is the latest; it says none exactly
+-- when there is none; it is refused exactly when the rules refuse a find in the nest's system, by 42, 43 or 44; and where it names no
+-- posting the place holds zeros.
 pub record LatestRight (L : Loops) (q : Find) : Type 0 where
   pub named : q.answer ≡ Ok APosting → NamesLatest L q.point q.place
   pub none : NoneRight L q
   pub refused : RefusedRight (Some (system_of L)) q
   pub otherwise : q.answer ≢ Ok APosting → q.place ≡ zeros 6
 
--- whatever arrangement leads to where the store means m, if the nest's system stands after it, the question is answered right
-abbrev pub NextLatest : Meaning → Loops → Find → Type 0
-NextLatest m L q = (before : List Event) → LeadsTo before m → standing before ≡ Some (system_of L) → LatestRight L q
-
--- some arrangement leads to where the store means m, and the nest's system stands after it
+-- the nest stands where the store means m: some arrangement leads there, and the nest's system is the one that stands after it
 pub record Stands (L : Loops) (m : Meaning) : Type 0 where
   pub events : List Event
   pub leads : LeadsTo events m
   pub stands : standing events ≡ Some (system_of L)
+
+-- where the nest stands, after whatever arrangement, the question is answered right
+abbrev pub RightWhereStanding : Loops → Meaning → Find → Type 0
+RightWhereStanding L m q = Stands L m → LatestRight L q
