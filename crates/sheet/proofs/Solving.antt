@@ -18,7 +18,7 @@ use Rattle.solver_laws.specs.Stops.{Told}
 use Rattle.solver_laws.proofs.Closed.{no-path}
 use Rattle.solver_laws.proofs.Counted.{nodes-counted}
 use Rattle.solver_laws.proofs.Stops.{stops-told}
-use Rattle.sheet.specs.Laws.{RefusalTold, ToldBy}
+use Rattle.sheet.specs.Refused.{RefusalTold, ToldBy}
 use Rattle.sheet.specs.Sheets.{after_install, held, replaced, solved_here, uncounted}
 use Rattle.sheet.proofs.Alike.{counted}
 
