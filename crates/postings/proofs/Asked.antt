@@ -23,7 +23,7 @@ use Rattle.sheet.specs.Events.{Find}
 use Rattle.sheet.specs.Laws.{FindRight, InRange, RefusedRight}
 use Rattle.sheet.proofs.Arranged.{next-find}
 use Rattle.postings.specs.Latest.{found_turned, latest_in, left_of, turned}
-use Rattle.postings.specs.Laws.{LatestRight, RightWhereStanding}
+use Rattle.postings.specs.Laws.{LatestRight, NextLatest}
 
 -- ---- a find that is not refused
 in-range-askable : (z : List ℕ) → InRange (map pos z) → Askable z
@@ -108,7 +108,7 @@ module _ (L : Loops) (s : Shaped L) (point : List ℤ) where
       })
 
 pub latest-right : (m : Meaning) (L : Loops) → Shaped L → (point : List ℤ) (a : Result Found Refusal) (place : List ℤ) →
-    a ≡ said_of (latest_in m.nodes L point) → place ≡ left_of (latest_in m.nodes L point) → RightWhereStanding L m (record { point = point; answer = a; place = place })
+    a ≡ said_of (latest_in m.nodes L point) → place ≡ left_of (latest_in m.nodes L point) → NextLatest m L (record { point = point; answer = a; place = place })
 latest-right m L s point a place p q k =
     let o = found_in m.nodes point in
     let f = found L s point o in

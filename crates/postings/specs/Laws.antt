@@ -43,5 +43,5 @@ pub record Stands (L : Loops) (m : Meaning) : Type 0 where
   pub stands : standing events ≡ Some (system_of L)
 
 -- where the nest stands, after whatever arrangement, the question is answered right
-abbrev pub RightWhereStanding : Loops → Meaning → Find → Type 0
-RightWhereStanding L m q = Stands L m → LatestRight L q
+abbrev pub NextLatest : Meaning → Loops → Find → Type 0
+NextLatest m L q = Stands L m → LatestRight L q

@@ -8,7 +8,7 @@ ghost use Rattle.nest.specs.Tables.{system_of};
 ghost use Rattle.sheet.specs.Arrangements.{Reached};
 ghost use Rattle.sheet.specs.Sheets.{replaced, solved_here};
 ghost use Rattle.postings.specs.Latest.{latest_in, left_of, turned};
-ghost use Rattle.postings.specs.Laws.{RightWhereStanding, Stands};
+ghost use Rattle.postings.specs.Laws.{NextLatest, Stands};
 
 use base::refusal::Refusal;
 use nest::nest::Nest;
@@ -82,7 +82,7 @@ pub fn latest<T: Store>(
     ensures answer { result ≡ said_of (latest_in sheet.now.nodes (nest_of nest.now) point.now) }
     ensures left { counters.new ≡ left_of (latest_in sheet.now.nodes (nest_of nest.now) point.now) }
     ensures reached { ∥ Reached sheet.now ∥₁ }
-    ensures law { RightWhereStanding (nest_of nest.now) sheet.now (record { point = point.now; answer = result; place = counters.new }) }
+    ensures law { NextLatest sheet.now (nest_of nest.now) (record { point = point.now; answer = result; place = counters.new }) }
 {
     ask(sheet, nest, point, counters)
 }
