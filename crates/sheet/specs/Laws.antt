@@ -1,22 +1,16 @@
 -- What holds of every arrangement of calls on a sheet.
-use Rattle.std.specs.Prelude.{◌≡◌, ◌≢◌, ℕ, ◌⊎◌, ◌↔◌, List, [], ◌∷◌, ◌++◌, map, length, ℤ, pos, ◌≤ℤ◌, ◌<ℤ◌, Some, None, Ok, Err, Option, IsOk, unsigned_abs}
+use Rattle.std.specs.Prelude.{◌≡◌, ◌≢◌, ℕ, ◌⊎◌, ◌↔◌, List, [], ◌∷◌, ◌++◌, map, length, ℤ, pos, ◌≤ℤ◌, ◌<ℤ◌, Some, None, Ok, Err, Option, IsOk}
 use Rattle.std.specs.List.{AllByRecursion}
 use Rattle.base.specs.declared.refusal.Refusal.{Refusal}
-use Rattle.base.specs.declared.refusal.Refusal.TheVariants.{StoreFull}
 use Rattle.base.specs.declared.refusal.Values.{Values}
 use Rattle.base.specs.declared.refusal.Values.TheVariants.{None as NoValues}
 use Rattle.base.specs.Refusals.{refused, report_of, reported}
 use Rattle.source.specs.Systems.{MeetsContext, Point, Precedes, System}
 use Rattle.tree.specs.declared.walk.Found.TheVariants.{Point as APoint, None as NoPoint}
 use Rattle.tree.specs.Finds.{six_numbers}
-use Rattle.tree.specs.Trees.{Tree}
-use Rattle.solver.specs.declared.count.Count.{Count}
-use Rattle.solver.specs.declared.count.Stopped.{Stopped}
 use Rattle.solver.specs.declared.run.Solved.{Solved}
 use Rattle.store.specs.Stores.{Costs, Meaning, fresh}
-use Rattle.solver.specs.Solves.{solve_answer, solved, work_after}
-use Rattle.solver.specs.Ties.{limits}
-use Rattle.solver_laws.specs.Stops.{Told}
+use Rattle.solver.specs.Solves.{solve_answer, work_after}
 use Rattle.sheet.specs.Sheets.{solved_here}
 use Rattle.sheet.specs.Arrangements.{Arrangement, LeadsTo}
 use Rattle.sheet.specs.Events.{Event, Find, Solve, find, solve, standing}
@@ -96,15 +90,6 @@ pub record SolvesRight (s r : Solve) : Type 0 where
   pub accepted : AcceptedAlike s r
   pub spent : SpentAlike s r
   pub refused : RefusedAlike s r
-
--- a refused solve tells the truth of the steps that it made: by 23 they are those of the whole run, which made a tree; else as the rules tell
--- them (none by 11, 12 and 21, those of the context's test by 13, those that the refusal names by 22, 24 and 31 to 34)
-abbrev pub ToldBy : System → ℤ → ℕ → Refusal → Count → Type 0
-ToldBy S fuel room StoreFull c = (t : Tree) × (solved S fuel room ≡ Ok (t, c))
-ToldBy S fuel room why c = Told S (limits (unsigned_abs fuel) room) why c
-
-abbrev pub RefusalTold : System → ℤ → ℕ → Stopped → Type 0
-RefusalTold S fuel room s = ToldBy S fuel room s.why s.count
 
 -- ---- arrangements
 -- one of the events

@@ -8,8 +8,9 @@ ghost use Rattle.solver.specs.Solves.{counted_answer, solve_answer, work_after};
 ghost use Rattle.sheet.specs.Sheets.{emptied, replaced, solved_here, uncounted};
 ghost use Rattle.sheet.specs.Events.{find as find_made, solve as solve_made, wipe as wipe_made};
 ghost use Rattle.sheet.specs.Arrangements.{LeadsTo, Reached};
-ghost use Rattle.sheet.specs.Laws.{LeadsOn, NextFind, NextSolve, RefusalTold};
+ghost use Rattle.sheet.specs.Laws.{LeadsOn, NextFind, NextSolve};
 ghost use Rattle.sheet.specs.Paged.{PageStands, RepliesAlike};
+ghost use Rattle.sheet.specs.Refused.{RefusalTold};
 
 use base::refusal::Refusal;
 use solver::count::{Count, Stopped};
