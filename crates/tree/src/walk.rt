@@ -1,6 +1,7 @@
 //! What a list of nodes answers at a parameter point.
 ghost use Rattle.std.specs.Prelude.{◌≡◌, true, OnOk, length};
-ghost use Rattle.tree.specs.Finds.{all_below, found_in, head_fits, is_point, left_of, point_answer, said_of};
+ghost use Rattle.base.specs.Refusals.{reported};
+ghost use Rattle.tree.specs.Finds.{all_below, found_in, head_fits, is_point, left_of, point_answer, point_report, said_of};
 ghost use Rattle.tree.specs.Questions.{AnswersAsTree, AnswersWithinLimits};
 
 use crate::node::{Node, NodeForm};
@@ -42,6 +43,7 @@ pub fn head_fits(n: u8, p: u8) -> bool
 /// Inner: refuses what is no point of p parameters: 42 if it is not of p numbers, 43 if one is not from 0 to 1,000,000.
 pub fn check_point(point: &[i64], p: usize) -> Result<(), Refusal>
     ensures answer { result ≡ point_answer p point.now }
+    ensures report { reported result ≡ point_report p point.now }
     ensures accepted { OnOk result ((length point.now ≡ p) × (is_point point.now ≡ true)) }
 {
     if point.len() != p {
