@@ -3,6 +3,8 @@ use Rattle.std.specs.Prelude.{ℕ, ◌+◌, cond, List, [], ◌∷◌, ◌++◌,
 use Rattle.base.specs.declared.refusal.Refusal.{Refusal}
 use Rattle.base.specs.declared.refusal.Refusal.TheVariants.{Counts}
 use Rattle.base.specs.declared.refusal.Report.{Report}
+use Rattle.base.specs.declared.refusal.Values.TheVariants.{None}
+use Rattle.base.specs.Refusals.{refused}
 use Rattle.source.specs.Enters.{confine_answer as confine_system, confine_report as report_system}
 use Rattle.source.specs.Limits.{counts_fit}
 use Rattle.base.specs.Numbers.{zeros}
@@ -24,6 +26,10 @@ plain n p = record { n = n; p = p; bounds = replicate n (zeros (p + 1)); cells =
 
 abbrev pub new_answer : ℕ → ℕ → Result Loops Refusal
 new_answer n p = cond (counts_fit n p 0 0) (Ok (plain n p)) (Err Counts)
+
+-- the same in numbers: 11
+abbrev pub new_report : ℕ → ℕ → Result Loops Report
+new_report n p = cond (counts_fit n p 0 0) (Ok (plain n p)) (refused 11 None)
 
 -- a bound has a number for each parameter, and one more; it is for one of the loops
 abbrev pub bound_answer : Loops → ℕ → List ℤ → Result (Unit {0}) Refusal

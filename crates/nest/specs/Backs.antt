@@ -1,10 +1,12 @@
 -- From the numbers of a point of a nest's system back to the counters of its loops.
-use Rattle.std.specs.Prelude.{Bool, true, false, cond, ◌&&◌, List, [], ◌∷◌, ℤ, pos, ◌-ℤ◌, Ok, Err, Result, int_le}
+use Rattle.std.specs.Prelude.{Bool, true, false, cond, ◌&&◌, List, [], ◌∷◌, length, ℤ, pos, ◌-ℤ◌, Ok, Err, Result, ◌==◌, int_le}
 use Rattle.base.specs.declared.refusal.Refusal.{Refusal}
 use Rattle.base.specs.declared.refusal.Refusal.TheVariants.{BeyondBound}
+use Rattle.base.specs.declared.refusal.Report.{Report}
+use Rattle.base.specs.declared.refusal.Values.TheVariants.{None}
 use Rattle.base.specs.Forms.{value_at}
-use Rattle.base.specs.Refusals.{and_then}
-use Rattle.tree.specs.Finds.{point_answer, six_numbers}
+use Rattle.base.specs.Refusals.{and_then, refused}
+use Rattle.tree.specs.Finds.{is_point, point_answer, six_numbers}
 use Rattle.base.specs.Numbers.{zeros}
 use Rattle.nest.specs.Loops.{Loops}
 
@@ -40,6 +42,11 @@ turned_back L point numbers = and_then (point_answer L.p point) (counters_of L.b
 abbrev pub said_of : Result (List ℤ) Refusal → Result (Unit {0}) Refusal
 said_of (Ok six) = Ok tt
 said_of (Err e) = Err e
+
+-- the same in numbers: 42 or 43 for the point, then 45
+abbrev pub back_report : Loops → List ℤ → List ℤ → Result (Unit {0}) Report
+back_report L point numbers =
+    cond (length point == L.p) (cond (is_point point) (cond (reached L.bounds point numbers) (Ok tt) (refused 45 None)) (refused 43 None)) (refused 42 None)
 
 -- and what it leaves in the place of six: zeros alone where it is refused
 abbrev pub left_of : Result (List ℤ) Refusal → List ℤ

@@ -3,6 +3,9 @@ use Rattle.std.specs.Prelude.{ℕ, ◌-◌, Bool, true, false, cond, List, [], �
 use Rattle.std.specs.List.{sum_by}
 use Rattle.base.specs.declared.refusal.Refusal.{Refusal}
 use Rattle.base.specs.declared.refusal.Refusal.TheVariants.{StoreFull, StoreClosed}
+use Rattle.base.specs.declared.refusal.Report.{Report}
+use Rattle.base.specs.declared.refusal.Values.TheVariants.{None as No}
+use Rattle.base.specs.Refusals.{refused}
 use Rattle.tree.specs.Kinds.{kind_of}
 use Rattle.tree.specs.declared.node.Node.{Node}
 use Rattle.tree.specs.declared.node.Node.TheVariants.{None}
@@ -85,6 +88,10 @@ node_at m i = slice_index_or m.nodes i None
 -- install: a whole tree takes the place of what was there, or is refused because it costs more than the capacity
 abbrev pub install_answer : Meaning → List Node → Result (Unit {0}) Refusal
 install_answer m xs = cond (nat_le (used m.costs xs) m.capacity) (Ok tt) (Err StoreFull)
+
+-- the same in numbers: 23
+abbrev pub install_report : Meaning → List Node → Result (Unit {0}) Report
+install_report m xs = cond (nat_le (used m.costs xs) m.capacity) (Ok tt) (refused 23 No)
 
 abbrev pub installed : Meaning → List Node → Meaning
 installed m xs = unless_refused (install_answer m xs) (holding m xs false) m

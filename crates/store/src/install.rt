@@ -1,6 +1,7 @@
 //! A tree from a work table, put into any store: all of it, or nothing.
 ghost use Rattle.std.specs.Prelude.{◌≡◌, take};
-ghost use Rattle.store.specs.Stores.{install_answer, installed};
+ghost use Rattle.base.specs.Refusals.{reported};
+ghost use Rattle.store.specs.Stores.{install_answer, install_report, installed};
 
 use crate::store::Store;
 use base::refusal::Refusal;
@@ -40,6 +41,7 @@ fn replace<T: Store>(store: &mut T, nodes: &[Node]) -> Result<(), Refusal>
 /// what was there, and closes the store; 23 if they do not fit, and then the store is untouched.
 pub fn install<T: Store>(store: &mut T, work: &[Node], count: usize) -> Result<(), Refusal>
     ensures answer { result ≡ install_answer (T.meaning store.old) (take count work.now) }
+    ensures report { reported result ≡ install_report (T.meaning store.old) (take count work.now) }
     ensures left { T.meaning store.new ≡ installed (T.meaning store.old) (take count work.now) }
 {
     replace(store, work.get(..count).unwrap_or(work))

@@ -6,7 +6,7 @@ ghost use Rattle.source.specs.Systems.{entry};
 ghost use Rattle.algebra.specs.Lists.{column as column_of};
 ghost use Rattle.nest.specs.Tables.{cell_rows, in_unknowns, loop_rows, system_of};
 ghost use Rattle.base.specs.Refusals.{reported};
-ghost use Rattle.nest.specs.Acts.{bounded, bound_answer, bound_report, cell_answer, cell_report, confine_answer, confine_report, confined, meant_by, nest_of, new_answer, with_cell};
+ghost use Rattle.nest.specs.Acts.{bounded, bound_answer, bound_report, cell_answer, cell_report, confine_answer, confine_report, confined, meant_by, nest_of, new_answer, new_report, with_cell};
 
 use super::Nest;
 use crate::numbers::{MAX_CELLS, check_given};
@@ -21,6 +21,7 @@ impl Nest {
     /// A nest of n loops over p parameters: each runs from 0 to 0, and there is no condition yet.
     pub fn new(n: usize, p: usize) -> Result<Nest, Refusal>
         ensures answer { meant_by result ≡ new_answer n p }
+        ensures report { reported (meant_by result) ≡ new_report n p }
     {
         let kept = RowSource::new(n, p)?;
         Ok(Nest {

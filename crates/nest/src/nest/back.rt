@@ -2,9 +2,10 @@
 ghost use Rattle.std.specs.Prelude.{◌≡◌, ◌<◌, ◌≤◌, [], length, Ok, Err, slice_index_or, unsigned_abs};
 ghost use Rattle.base.specs.Numbers.{AllWithin};
 ghost use Rattle.base.specs.Forms.{value_at};
+ghost use Rattle.base.specs.Refusals.{reported};
 ghost use Rattle.tree.specs.Finds.{point_answer};
 ghost use Rattle.nest.specs.Acts.{nest_of};
-ghost use Rattle.nest.specs.Backs.{counter_of, counters_of, left_of, said_of, turned_back};
+ghost use Rattle.nest.specs.Backs.{back_report, counter_of, counters_of, left_of, said_of, turned_back};
 
 use super::Nest;
 use base::form::{Sum, plus_product};
@@ -83,6 +84,7 @@ impl Nest {
         place: &mut [i64; 6],
     ) -> Result<(), Refusal>
         ensures answer { result ≡ said_of (turned_back (nest_of self.now) point.now numbers.now) }
+        ensures report { reported result ≡ back_report (nest_of self.now) point.now numbers.now }
         ensures left { place.new ≡ left_of (turned_back (nest_of self.now) point.now numbers.now) }
     {
         *place = [0; 6];

@@ -1,6 +1,8 @@
 use Rattle.std.proofs.Common.{◌≡◌, ℕ, ◌≤◌, Bool, true, false, cond, ◌&&◌, leb, replicate, pos, Ok, Err, sym, refl, ap, ◌∙◌, subst}
 use Rattle.std.proofs.lemmas.Bool.{and_parts, cond-true, leb-true}
 use Rattle.base.specs.declared.refusal.Refusal.TheVariants.{Counts}
+use Rattle.base.specs.declared.refusal.Values.TheVariants.{None}
+use Rattle.base.specs.Refusals.{refused}
 use Rattle.source.specs.Systems.{System}
 use Rattle.source.specs.Limits.{counts_fit}
 use Rattle.source.specs.RowSources.{bare, meaning_of, new_answer as rows_answer}
@@ -45,4 +47,8 @@ returns c =
     let e = c.in_ok-kept.ensures.answer in
     let t = (as-bare n p (meaning_of kept) e).1 in
     let f = in-counts n p t in
-    record { answer = ap Ok (as_plain n p kept f.1.0 f.1.1 e) ∙ sym (cond-true (counts_fit n p 0 0) (Ok (plain n p)) (Err Counts) t) }
+    let plainly = as_plain n p kept f.1.0 f.1.1 e in
+    record {
+      answer = ap Ok plainly ∙ sym (cond-true (counts_fit n p 0 0) (Ok (plain n p)) (Err Counts) t);
+      report = ap Ok plainly ∙ sym (cond-true (counts_fit n p 0 0) (Ok (plain n p)) (refused 11 None) t);
+    }
