@@ -98,10 +98,7 @@ fn a_list_that_is_no_tree_answers_none(rt: HostRuntime) {
 /// An empty store has no tree; with the worked tree it answers as that does.
 fn answers_as_listed<T: Store>(rt: &impl Abort, store: &mut T) {
     let mut place = [7; 6];
-    assert_eq!(rt;
-        ask::find(store, &[3], &mut place),
-        Err(Refusal::NoTree)
-    );
+    assert_eq!(rt; ask::find(store, &[3], &mut place), Err(Refusal::NoTree));
     assert_eq!(rt; place, [0; 6]);
     assert_eq!(rt; install(store, &WORKED, 5), Ok(()));
     for (k, first) in [(0, 0), (3, 2), (4, 2)] {

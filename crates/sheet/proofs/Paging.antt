@@ -1,10 +1,9 @@
 -- The tree that a sheet lists, as a page.
-use Rattle.std.proofs.Common.{◌≡◌, ℕ, List, ℤ, Some, None, Ok, Err, IfOk, Option, Result, sym, refl, ap, ◌∙◌, subst}
+use Rattle.std.proofs.Common.{◌≡◌, ℕ, List, ℤ, None, Ok, Err, IfOk, Option, Result, sym, refl, ap, ◌∙◌, subst}
 use Rattle.base.specs.declared.refusal.Refusal.{Refusal}
 use Rattle.source.specs.Systems.{System}
 use Rattle.store.specs.Stores.{Meaning, fresh}
 use Rattle.tree.specs.Finds.{found_in, left_of, said_of}
-use Rattle.tree.specs.Trees.{Tree}
 use Rattle.tree.proofs.Walking.{as_within}
 use Rattle.page.specs.Pages.{IsPage}
 use Rattle.page.specs.Readings.{Whole, whole}
@@ -13,22 +12,20 @@ use Rattle.page.specs.Replies.{replied}
 use Rattle.page.proofs.Reading.{written as accepted_page}
 use Rattle.page.proofs.Regained.{page-back}
 use Rattle.page.proofs.Replying.{replies_as_tree}
-use Rattle.solver.specs.declared.count.Count.{Count}
 use Rattle.solver.specs.declared.run.Solved.{Solved}
 use Rattle.solver.specs.declared.count.Stopped.{Stopped}
 use Rattle.solver.specs.Solves.{context_of, counted_answer, solve_answer, solved, written}
-use Rattle.solver_laws.proofs.Closed.{no-path}
 use Rattle.solver_laws.proofs.Counted.{nodes-counted}
 use Rattle.solver_laws.proofs.Limits.{tree-limits}
 use Rattle.sheet.specs.Sheets.{replaced, solved_here, uncounted}
-use Rattle.sheet.specs.Events.{Event, Find, find, standing}
-use Rattle.sheet.specs.Arrangements.{Gives, LeadsTo, after_all}
-use Rattle.sheet.specs.Paged.{PageStands, RepliesAlike}
+use Rattle.sheet.specs.Events.{Find, find}
+use Rattle.sheet.specs.Arrangements.{Gives, after_all}
+use Rattle.sheet.specs.Paged.{PageStands, RepliesAlike, SolvedPages}
 use Rattle.sheet.proofs.Alike.{accepted}
 use Rattle.sheet.proofs.Solving.{uncounted-answer}
 use Rattle.sheet.proofs.Standing.{Stands, TreeOf, all-stands}
 
-page-of-tree : (S : System) (fuel : ℤ) (room : ℕ) (t : Tree) (c : Count) → solved S fuel room ≡ Ok (t, c) → PageStands (written S t) c.nodes
+pub page-of-tree : SolvedPages
 page-of-tree S fuel room t c e =
     let w : Whole = whole S.n S.p (context_of S) t in
     let page : IsPage (page_of (written S t)) w = (tree-limits S fuel room t c e, refl) in
