@@ -3,10 +3,9 @@
 #![tactic(auto)]
 
 use anyhow::Context as _;
-use base::refusal::Refusal;
 use listing::read::{Listing, read};
 use listing::solve::WORK;
-use solver::run::solve_into;
+use solver::run::solve_counted;
 use std::time::Instant;
 use std::{env, fs};
 use tree::node::Node;
@@ -18,28 +17,15 @@ struct Tally {
     steps: u64,
 }
 
-/// The steps that a refused run made.
-fn steps_of(refusal: &Refusal) -> u64 {
-    match refusal {
-        Refusal::WorkFull(met)
-        | Refusal::FuelSpent(met)
-        | Refusal::Range(met)
-        | Refusal::Cuts(met)
-        | Refusal::NewParameters(met)
-        | Refusal::Depth(met) => u64::from(met.steps),
-        _ => 0,
-    }
-}
-
 /// Solves a listing the given number of times, and answers the steps of all of them.
 fn solve_rounds(listing: &Listing, rounds: u32, work: &mut [Node]) -> u64 {
     let mut steps = 0u64;
     for _ in 0..rounds {
-        let made = match solve_into(&listing.source, work, listing.fuel) {
-            Ok(solved) => u64::from(solved.steps),
-            Err(refusal) => steps_of(&refusal),
+        let made = match solve_counted(&listing.source, work, listing.fuel) {
+            Ok(solved) => solved.steps,
+            Err(stopped) => stopped.count.steps,
         };
-        steps = steps.saturating_add(made);
+        steps = steps.saturating_add(u64::from(made));
     }
     steps
 }

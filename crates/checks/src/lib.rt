@@ -2,11 +2,15 @@
 #![tactic(auto)]
 
 #[cfg(test)]
+mod latest_postings;
+#[cfg(test)]
 mod nests;
 #[cfg(test)]
 mod page_stores;
 #[cfg(test)]
 mod questions;
+#[cfg(test)]
+mod sheets;
 #[cfg(test)]
 mod solves;
 #[cfg(test)]

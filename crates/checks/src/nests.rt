@@ -1,15 +1,12 @@
 //! Nests by example.
 use base::refusal::Refusal;
 use nest::nest::Nest;
-use solver::run::solve_into;
 use source::source::Source;
 use std::process::Abort;
 use std::test::Fail;
-use tree::node::Node;
-use tree::walk::{Found, find};
 
 /// Loops i to m and j to n that post to cell 2i + j, over the parameters k, m, n: the postings to cell k.
-fn pairs() -> Result<Nest, Refusal> {
+pub(crate) fn pairs() -> Result<Nest, Refusal> {
     let mut nest = Nest::new(2, 3)?;
     nest.bound(0, &[0, 1, 0, 0])?;
     nest.bound(1, &[0, 0, 1, 0])?;
@@ -123,28 +120,5 @@ fn back_is_refused_in_order(rt: HostRuntime) -> Result<(), Fail> {
         &[-1, 0, 0, 0, 0, 0],
         Refusal::BeyondBound,
     );
-    Ok(())
-}
-
-/// What the tree of a nest says at a parameter point; the counters of the latest posting are left in the place.
-fn latest(nest: &Nest, point: &[i64], place: &mut [i64; 6]) -> Result<Found, Refusal> {
-    let mut work = [Node::None; 16];
-    solve_into(nest, &mut work, 100)?;
-    let mut least = [0; 6];
-    let found = find(&work, point, &mut least)?;
-    if let Found::Point = found {
-        nest.back(point, &least, place)?;
-    }
-    Ok(found)
-}
-
-#[test]
-fn the_tree_of_two_loops_says_the_latest_posting(rt: HostRuntime) -> Result<(), Fail> {
-    let nest = pairs()?;
-    let mut place = [9; 6];
-    assert_eq!(rt; latest(&nest, &[3, 3, 0], &mut place)?, Found::None);
-    assert_eq!(rt; place, [9; 6]);
-    assert_eq!(rt; latest(&nest, &[4, 3, 0], &mut place)?, Found::Point);
-    assert_eq!(rt; place, [2, 0, 0, 0, 0, 0]);
     Ok(())
 }

@@ -1,6 +1,12 @@
-//! Questions to lists of nodes by example.
+//! Questions to lists of nodes, and to stores, by example.
 use base::refusal::Refusal;
+use page_store::page_store::PageStore;
 use std::process::Abort;
+use std::test::Fail;
+use store::ask;
+use store::install::install;
+use store::node_store::NodeStore;
+use store::store::Store;
 use tree::node::Node;
 use tree::walk::{Found, find};
 use worked_tree::{WORKED, form, leaf};
@@ -87,4 +93,26 @@ fn a_list_that_is_no_tree_answers_none(rt: HostRuntime) {
         5,
         Ok(Found::None),
     );
+}
+
+/// An empty store has no tree; with the worked tree it answers as that does.
+fn answers_as_listed<T: Store>(rt: &impl Abort, store: &mut T) {
+    let mut place = [7; 6];
+    assert_eq!(rt; ask::find(store, &[3], &mut place), Err(Refusal::NoTree));
+    assert_eq!(rt; place, [0; 6]);
+    assert_eq!(rt; install(store, &WORKED, 5), Ok(()));
+    for (k, first) in [(0, 0), (3, 2), (4, 2)] {
+        assert_eq!(rt; ask::find(store, &[k], &mut place), Ok(Found::Point));
+        assert_eq!(rt; place, [first, 0, 0, 0, 0, 0]);
+    }
+}
+
+#[test]
+fn stores_are_asked_as_their_lists_are(rt: HostRuntime) -> Result<(), Fail> {
+    let table = Vec::from_slice(rt.alloc(), &[Node::None; 5])?;
+    answers_as_listed(&rt, &mut NodeStore::new(table));
+    let page = Vec::from_slice(rt.alloc(), &[0u8; 571])?;
+    let index = Vec::from_slice(rt.alloc(), &[0usize; 2])?;
+    answers_as_listed(&rt, &mut PageStore::new(page, index));
+    Ok(())
 }

@@ -6,6 +6,7 @@ pub mod Listing
 pub mod Pasting
 pub mod Reading
 pub mod Regained
+pub mod Replying
 mod Testing
 pub mod Words
 pub mod Written

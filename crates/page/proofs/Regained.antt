@@ -20,10 +20,10 @@ use Rattle.page.proofs.Words.{length-form, length-six, word_bytes}
 
 -- ---- the turns of the loop
 
-node-first : (f : ℕ) (bs : List ℕ) (q : Record × Bor (List ℕ)) → Reads (opened bs) (Ok q) → nodes_in (suc f) bs ≡ node_of (kind_in q.0) (body_in q.0) ∷ nodes_in f q.1.now
+pub node-first : (f : ℕ) (bs : List ℕ) (q : Record × Bor (List ℕ)) → Reads (opened bs) (Ok q) → nodes_in (suc f) bs ≡ node_of (kind_in q.0) (body_in q.0) ∷ nodes_in f q.1.now
 node-first f bs q s = ap (nodes_from (nodes_in f)) (reads-one (opened bs) q s)
 
-node-none : (f : ℕ) (bs : List ℕ) (e : Flaw) → Reads (opened bs) (Err e) → nodes_in f bs ≡ []
+pub node-none : (f : ℕ) (bs : List ℕ) (e : Flaw) → Reads (opened bs) (Err e) → nodes_in f bs ≡ []
 node-none zero bs e s = refl
 node-none (suc f) bs e s = ap (nodes_from (nodes_in f)) (reads-flaw (opened bs) e s)
 

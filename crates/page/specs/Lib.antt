@@ -4,3 +4,4 @@ pub mod Fits
 pub mod Readings
 pub mod Pages
 pub mod Ties
+pub mod Replies

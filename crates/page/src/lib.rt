@@ -5,4 +5,5 @@ pub mod back;
 pub mod check;
 pub mod number;
 pub mod record;
+pub mod reply;
 pub mod write;

@@ -2,11 +2,13 @@
 use base::refusal::Refusal;
 use page::back::{node_at, node_of, record_at};
 use page::check::check;
+use page::reply::reply;
 use page::write::{cost, write, write_list};
 use std::alloc::{AllocError, AllocFailed, Global};
 use std::array;
 use std::process::Abort;
 use tree::node::{Node, NodeForm};
+use tree::walk::Found;
 use worked_tree::{WORKED, form};
 
 /// The page of the worked tree.
@@ -100,6 +102,42 @@ fn one_record_is_written_at_its_offset(rt: HostRuntime) {
     assert_eq!(rt; &page[40..45], [255, 255, 255, 254, 5].as_slice());
     assert_eq!(rt; node_at(&page, 1), Node::Keep(form(1, 0, -2)));
     assert_eq!(rt; node_at(&page, 2), WORKED[2]);
+}
+
+#[test]
+fn a_page_replies(rt: HostRuntime) {
+    let page = half_page();
+    let mut place = [7; 6];
+    for (k, first) in [(0, 0), (3, 2), (4, 2)] {
+        assert_eq!(rt; reply(&page, &[k], &mut place), Ok(Found::Point));
+        assert_eq!(rt; place, [first, 0, 0, 0, 0, 0]);
+    }
+    assert_eq!(rt;
+        reply(&page, &[-1, 0], &mut place),
+        Err(Refusal::PointLength)
+    );
+    assert_eq!(rt; place, [0; 6]);
+    assert_eq!(rt; reply(&page, &[-1], &mut place), Err(Refusal::PointNumber));
+    let keep = form(-1, 0, 10);
+    let bounded = [Node::Head { n: 1, p: 1 }, Node::Keep(keep), Node::None];
+    let mut page = [0; 45];
+    assert_eq!(rt; write_list(&bounded, &mut page), Some(45));
+    assert_eq!(rt; reply(&page, &[11], &mut place), Err(Refusal::OutsideKeep));
+    assert_eq!(rt; reply(&page, &[10], &mut place), Ok(Found::None));
+}
+
+#[test]
+fn a_broken_page_replies_by_its_refusal(rt: HostRuntime) {
+    let mut page = [0; 571];
+    let mut place = [7; 6];
+    assert_eq!(rt; write_list(&WORKED, &mut page), Some(571));
+    // the last leaf wants its last byte, and the point is none
+    let short = Refusal::PageLength { offset: 330 };
+    assert_eq!(rt; reply(&page[..570], &[-1], &mut place), Err(short));
+    assert_eq!(rt; place, [0; 6]);
+    page[44] = 1;
+    let kind = Refusal::PageKind { offset: 44 };
+    assert_eq!(rt; reply(&page, &[3], &mut place), Err(kind));
 }
 
 #[test]

@@ -6,13 +6,16 @@ use base::refusal::Refusal;
 use listing::solve::WORK;
 use listing::word::{first_word, number};
 use nest::nest::Nest;
-use solver::run::{FUEL, solve_into};
+use postings::latest::{latest, solve};
+use sheet::sheet::Sheet;
+use solver::run::FUEL;
 use source::limits::MAX_ROW_LENGTH;
 use source::source::Source;
 use std::alloc::{AllocError, AllocFailed};
 use std::io::Read;
+use store::node_store::NodeStore;
 use tree::node::Node;
-use tree::walk::{Found, find};
+use tree::walk::Found;
 
 // An error type of this program's own: another program stops for other things.
 /// Why the lines are not taken to their end.
@@ -35,54 +38,28 @@ impl From<anyhow::Error> for Stop {
     }
 }
 
+impl From<AllocError> for Stop {
+    fn from(error: AllocError) -> Stop {
+        Stop::Failed(error.into())
+    }
+}
+
 impl<T: Drop> From<AllocFailed<T>> for Stop {
     fn from(failed: AllocFailed<T>) -> Stop {
-        Stop::Failed(AllocError::from(failed).into())
+        AllocError::from(failed).into()
     }
 }
 
-/// A nest's solution tree, in its work table.
-#[derive(Clone, Copy)]
-struct Tree {
-    work: [Node; WORK],
-    nodes: usize,
-}
-
-impl Tree {
-    /// Solves the nest.
-    fn of(nest: &Nest) -> Result<Tree, Refusal> {
-        let mut work = [Node::None; WORK];
-        let solved = solve_into(nest, &mut work, FUEL)?;
-        Ok(Tree {
-            work,
-            nodes: solved.nodes,
-        })
-    }
-
-    /// Its nodes.
-    fn nodes(&self) -> &[Node] {
-        &self.work[..self.nodes.min(WORK)]
-    }
-
-    /// The latest posting at a parameter point: its counters are left in the place.
-    fn latest(&self, nest: &Nest, point: &[i64], place: &mut [i64; 6]) -> Result<Found, Refusal> {
-        let mut least = [0; 6];
-        let found = find(self.nodes(), point, &mut least)?;
-        if let Found::Point = found {
-            nest.back(point, &least, place)?;
-        }
-        Ok(found)
-    }
-}
-
-/// A nest as it is read, how many of its loops have their bound, and its tree: solved when it is first asked, since
-/// one tree answers at every parameter point.
-#[derive(Clone, Copy)]
+/// A nest as it is read, how many of its loops have their bound, and the sheet that it is solved on: when it is first
+/// asked, since one tree answers at every parameter point.
+#[derive(Drop)]
 struct Reading {
     nest: Nest,
     // bounds, counted: no buffer has this length
     bounded: usize,
-    solved: Option<Result<Tree, Refusal>>,
+    sheet: Sheet<NodeStore>,
+    // what the nest's solve came to
+    solved: Option<Result<(), Refusal>>,
 }
 
 /// The numbers of a line, of which no line has more than a row.
@@ -102,17 +79,20 @@ fn numbers_of(rt: &HostRuntime, line: &[u8]) -> Result<Vec<i64>, Stop> {
 
 impl Reading {
     /// A fresh nest from the first line: `loops` and its two counts.
-    fn begin(word: &[u8], numbers: &[i64]) -> Result<Reading, Refusal> {
+    fn begin(rt: &HostRuntime, word: &[u8], numbers: &[i64]) -> Result<Reading, Stop> {
         match (word, numbers) {
             (b"loops", [n, p]) => {
                 let count = |x: &i64| usize::try_from(*x).map_err(|_| Refusal::Counts);
+                let nest = Nest::new(count(n)?, count(p)?)?;
+                let table = Vec::from_slice(rt.alloc(), &[Node::None; WORK])?;
                 Ok(Reading {
-                    nest: Nest::new(count(n)?, count(p)?)?,
+                    nest,
                     bounded: 0,
+                    sheet: Sheet::new(NodeStore::new(table)),
                     solved: None,
                 })
             }
-            _ => Err(Refusal::Listing),
+            _ => Err(Stop::Refused(Refusal::Listing)),
         }
     }
 
@@ -132,13 +112,21 @@ impl Reading {
         }
     }
 
+    /// Solves the nest, unless that was done.
+    fn solve(&mut self) -> Result<(), Refusal> {
+        if let Some(solved) = self.solved {
+            return solved;
+        }
+        let mut work = [Node::None; WORK];
+        let solved = solve(&mut self.sheet, &self.nest, &mut work, FUEL).map(|_| ());
+        self.solved = Some(solved);
+        solved
+    }
+
     /// The latest posting at a parameter point: its counters are left in the place.
     fn ask(&mut self, point: &[i64], place: &mut [i64; 6]) -> Result<Found, Refusal> {
-        let nest = &self.nest;
-        match self.solved.get_or_insert_with(|| Tree::of(nest)) {
-            Ok(tree) => tree.latest(nest, point, place),
-            Err(refusal) => Err(*refusal),
-        }
+        self.solve()?;
+        latest(&self.sheet, &self.nest, point, place)
     }
 
     /// Prints the latest posting at a parameter point.
@@ -185,7 +173,7 @@ fn take_lines(rt: &HostRuntime, text: &[u8]) -> Result<(), Stop> {
         }
         let numbers = numbers_of(rt, rest)?;
         match &mut reading {
-            None => reading = Some(Reading::begin(word, numbers.as_slice())?),
+            None => reading = Some(Reading::begin(rt, word, numbers.as_slice())?),
             Some(reading) => reading.take(rt, word, numbers.as_slice())?,
         }
     }

@@ -1,5 +1,5 @@
 -- Two solves alike on one sheet.
-use Rattle.std.proofs.Common.{◌≡◌, ℕ, ◌≤◌, Bool, true, false, cond, leb, List, [], ◌∷◌, ℤ, pos, negsuc, ◌≤ℤ◌, ◌<ℤ◌, nat_abs, Ok, Err, Result, sym, refl, ap, ap₂, ◌∙◌, subst, inl, inr, arith}
+use Rattle.std.proofs.Common.{◌≡◌, ℕ, zero, suc, ◌≤◌, ◌⊎◌, Bool, true, false, cond, leb, List, [], ◌∷◌, ℤ, pos, negsuc, ◌≤ℤ◌, ◌<ℤ◌, nat_abs, Ok, Err, Result, sym, refl, ap, ap₂, ◌∙◌, subst, inl, inr, arith}
 use borrow.Author.Differences.{ints}
 use Rattle.base.specs.declared.refusal.Met.{Met}
 use Rattle.base.specs.declared.refusal.Refusal.{Refusal}
@@ -21,7 +21,8 @@ use Rattle.solver_laws.proofs.Inside.{within-fuel}
 use Rattle.sheet.specs.Sheets.{after_install, held, replaced, solved_here}
 use Rattle.sheet.specs.Events.{Event, Solve, solve, find, wipe}
 use Rattle.sheet.specs.Arrangements.{Gives, Made, after}
-use Rattle.sheet.specs.Laws.{Alike, Among, IsSpent, SolvesRight}
+use Rattle.std.specs.List.{IsAmong}
+use Rattle.sheet.specs.Laws.{Alike, IsSpent, SolvesRight}
 
 abbrev pub counted : Count → Solved
 counted c = record { steps = c.steps; nodes = c.nodes }
@@ -153,6 +154,21 @@ pub gives-same : (m n : Meaning) → Same m n → (s : Solve) → Gives m (solve
 gives-same m n q s g =
     let e = held-same m n q s.system (solved s.system s.fuel s.room) in
     (g.0 ∙ ap solve_answer e, g.1 ∙ ap (work_after s.system s.room) e)
+
+-- ---- one of the events, as `IsAmong` says, or by recursion
+abbrev pub Among : Event → List Event → Type 0
+Among e [] = ⊥
+Among e (x ∷ xs) = (e ≡ x) ⊎ Among e xs
+
+pub among-of : (xs : List Event) (e : Event) → IsAmong xs e → Among e xs
+among-of [] e (i, (h, is)) = absurd (let no : ⊥ = omega (arith, h) in no)
+among-of (x ∷ xs) e (zero, (h, is)) = inl is
+among-of (x ∷ xs) e (suc i, (h, is)) = inr (among-of xs e (i, (omega (arith, h), is)))
+
+pub of_among : (xs : List Event) (e : Event) → Among e xs → IsAmong xs e
+of_among [] e h = absurd h
+of_among (x ∷ xs) e (inl is) = (zero, (omega arith, is))
+of_among (x ∷ xs) e (inr h) = let k = of_among xs e h in (suc k.0, (omega (arith, k.1.0), k.1.1))
 
 pub given : (m n : Meaning) → Same m n → (events : List Event) → Made m events → (s : Solve) → Among (solve s) events → Gives n (solve s)
 given m n q [] h s i = absurd i

@@ -4,9 +4,9 @@ use Rattle.sheet.specs.Sheets.{emptied}
 use Rattle.store.specs.Stores.{Costs, Meaning, fresh}
 use Rattle.sheet.specs.Events.{Event, Find, Solve, find, solve}
 use Rattle.sheet.specs.Arrangements.{Gives, LeadsTo, Made, Reached, after, after_all}
-use Rattle.sheet.specs.Laws.{Among, ArrangementsRight, LeadsOn, NextFind, NextSolve}
+use Rattle.sheet.specs.Laws.{ArrangementsRight, LeadsOn, NextFind, NextSolve}
 use Rattle.std.proofs.Math.Logic.{∥∥₁_map}
-use Rattle.sheet.proofs.Alike.{Same, given, solves-right, steady}
+use Rattle.sheet.proofs.Alike.{Among, Same, among-of, given, of_among, solves-right, steady}
 use Rattle.sheet.proofs.Running.{after-append, made-append}
 use Rattle.sheet.proofs.Standing.{all-stands, find-right}
 
@@ -24,8 +24,8 @@ arrangements-right capacity costs events h =
           find-right _ (after_all m before) (all-stands m None before k.0 refl) f k.1;
       solves = λ s r i j a.
           let q : Same m m = record { capacity = refl; costs = refl } in
-          solves-right m s r (given m m q events h s i) (given m m q events h r j) a;
-      as_solved = λ s i. let q : Same m m = record { capacity = refl; costs = refl } in given m m q events h s i;
+          solves-right m s r (given m m q events h s (among-of events (solve s) i)) (given m m q events h r (among-of events (solve r) j)) a;
+      as_solved = λ s i. let q : Same m m = record { capacity = refl; costs = refl } in given m m q events h s (among-of events (solve s) i);
     }
 
 -- ---- further calls
@@ -62,6 +62,9 @@ next m e n g is = leads-on m (e ∷ []) n (g, tt) is
 pub reach : (m : Meaning) (e : Event) (n : Meaning) → Gives m e → n ≡ after m e → ∥ Reached m ∥₁ → ∥ Reached n ∥₁
 reach m e n g is r = ∥∥₁_map r (λ k. (k.0 ++ e ∷ [], (next m e n g is k.0 k.1).0))
 
+pub reach-on : (m : Meaning) (events : List Event) (n : Meaning) → LeadsOn m events n → ∥ Reached m ∥₁ → ∥ Reached n ∥₁
+reach-on m events n h r = ∥∥₁_map r (λ k. (k.0 ++ events, (h k.0 k.1).0))
+
 pub reach-first : (m : Meaning) → ∥ Reached (emptied m) ∥₁
 reach-first m = ∣ ([], fresh-leads m) ∣₁
 
@@ -81,6 +84,6 @@ among-last e (y ∷ ys) = inr (among-last e ys)
 pub next-solve : (m : Meaning) (r : Solve) (n : Meaning) → Gives m (solve r) → n ≡ after m (solve r) → NextSolve m r
 next-solve m r n g is events l s i a =
     let right = (next m (solve r) n g is events l).1 in
-    let j = among-before (solve s) (solve r) events i in
-    let k = among-last (solve r) events in
+    let j = of_among (events ++ solve r ∷ []) (solve s) (among-before (solve s) (solve r) events (among-of events (solve s) i)) in
+    let k = of_among (events ++ solve r ∷ []) (solve r) (among-last (solve r) events) in
     (right.solves s r j k a, right.solves r s k j (record { systems = sym a.systems; rooms = sym a.rooms }))

@@ -1,18 +1,23 @@
 -- What a solve on a sheet comes to: the rules' answer, and then whether the tree fits the store.
-use Rattle.std.proofs.Common.{◌≡◌, ℕ, ◌-◌, false, List, length, take, replicate, ℤ, Ok, Err, sym, refl, ap, ◌∙◌}
+use Rattle.std.proofs.Common.{◌≡◌, ℕ, ◌-◌, Bool, true, false, cond, leb, List, length, take, replicate, ℤ, Ok, Err, IfErr, Result, sym, refl, ap, ◌∙◌, subst}
 use Rattle.std.proofs.lemmas.List.{take_at}
 use Rattle.base.specs.declared.refusal.Refusal.{Refusal}
+use Rattle.base.specs.declared.refusal.Refusal.TheVariants.{StoreFull}
 use Rattle.source.specs.Systems.{System}
-use Rattle.store.specs.Stores.{Meaning, holding, install_answer, installed, unless_refused}
+use Rattle.store.specs.Stores.{Meaning, holding, install_answer, installed, unless_refused, used}
 use Rattle.tree.specs.declared.node.Node.{Node}
 use Rattle.tree.specs.declared.node.Node.TheVariants.{None as Blank}
 use Rattle.tree.specs.Trees.{Tree}
 use Rattle.solver.specs.declared.count.Count.{Count}
+use Rattle.solver.specs.declared.count.Stopped.{Stopped}
 use Rattle.solver.specs.declared.run.Solved.{Solved}
 use Rattle.solver.specs.Runs.{Outcome, stopped}
 use Rattle.solver.specs.Solves.{counted_answer, solve_answer, solved, work_after, written}
+use Rattle.solver_laws.specs.Stops.{Told}
 use Rattle.solver_laws.proofs.Closed.{no-path}
 use Rattle.solver_laws.proofs.Counted.{nodes-counted}
+use Rattle.solver_laws.proofs.Stops.{stops-told}
+use Rattle.sheet.specs.Refused.{RefusalTold, ToldBy}
 use Rattle.sheet.specs.Sheets.{after_install, held, replaced, solved_here, uncounted}
 use Rattle.sheet.proofs.Alike.{counted}
 
@@ -54,3 +59,21 @@ module _ (m : Meaning) (S : System) (fuel : ℤ) (room : ℕ) (v : Solved) (w : 
 pub uncounted-answer : (o : Outcome Tree) → uncounted (counted_answer o) ≡ solve_answer o
 uncounted-answer (Ok v) = refl
 uncounted-answer (Err s) = refl
+
+-- ---- what a refused solve tells
+-- the rules do not refuse by 23 themselves
+as-told : (S : System) (fuel : ℤ) (room : ℕ) (why : Refusal) (c : Count) → Told S fuel room why c → ToldBy S fuel room why c
+as-told S fuel room StoreFull c h = absurd h
+as-told S fuel room _ c h = h
+
+pub told : (m : Meaning) (S : System) (fuel : ℤ) (room : ℕ) (r : Result Solved Stopped) → r ≡ counted_answer (solved_here m S fuel room) → IfErr r (RefusalTold S fuel room)
+told m S fuel room (Ok v) h = tt
+told m S fuel room (Err s) h = go (solved S fuel room) refl h
+  where
+    full : (v : Tree × Count) → solved S fuel room ≡ Ok v → (b : Bool) → Err s ≡ counted_answer (after_install (cond b (Ok tt) (Err StoreFull)) v) → RefusalTold S fuel room s
+    full v e true h = absurd (no-path cc)
+    full v e false h = subst (RefusalTold S fuel room) (sym (let same : s ≡ stopped StoreFull v.1 = cc in same)) (refl, (v.0, e))
+
+    go : (o : Outcome Tree) → solved S fuel room ≡ o → Err s ≡ counted_answer (held m S o) → RefusalTold S fuel room s
+    go (Ok v) e h = full v e (leb (used m.costs (written S v.0)) m.capacity) h
+    go (Err t) e h = subst (RefusalTold S fuel room) (sym (let same : s ≡ t = cc in same)) (as-told S fuel room t.why t.count (stops-told S fuel room t e))

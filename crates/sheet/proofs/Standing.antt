@@ -7,6 +7,7 @@ use Rattle.base.specs.declared.refusal.Values.TheVariants.{None as NoValues}
 use Rattle.base.specs.Refusals.{report_of, reported}
 use Rattle.source.specs.Systems.{MeetsContext, System}
 use Rattle.store.specs.Stores.{Meaning, install_answer}
+use Rattle.base.specs.Numbers.{zeros}
 use Rattle.tree.specs.Answers.{answer_at}
 use Rattle.tree.specs.Finds.{found_in, left_of, said_of, six_numbers}
 use Rattle.tree.specs.Questions.{asked}
@@ -68,11 +69,12 @@ plain n = record { number = n; values = NoValues }
 
 module _ (S : System) (f : Find) where
   -- where the rules refuse it by one number alone, and it is refused so
-  refused-right : (e : Refusal) (number : ℕ) → report_of e ≡ plain number → Refuses (Some S) f.point number → ((n : ℕ) → Refuses (Some S) f.point n → n ≡ number) → f.answer ≡ Err e → FindRight (Some S) f
-  refused-right e number is so only q = let same : (x : Refusal) → f.answer ≡ Err x → e ≡ x = λ x p. cc in record {
+  refused-right : (e : Refusal) (number : ℕ) → report_of e ≡ plain number → Refuses (Some S) f.point number → ((n : ℕ) → Refuses (Some S) f.point n → n ≡ number) → f.answer ≡ Err e → f.place ≡ zeros 6 → FindRight (Some S) f
+  refused-right e number is so only q left = let same : (x : Refusal) → f.answer ≡ Err x → e ≡ x = λ x p. cc in record {
     named = λ p. absurd (no-path cc);
     refused = record { only = λ x p. (number, (ap report_of (sym (same x p)) ∙ is, so)); whenever = λ n h. ap reported q ∙ ap Err (is ∙ ap plain (sym (only n h))) };
     none = λ ok. absurd (not-ok f.answer e q ok);
+    otherwise = λ _. left;
   }
 
   -- where the rules refuse it not, and it is answered right
@@ -81,27 +83,29 @@ module _ (S : System) (f : Find) where
     named = λ _. record { parameters = z; unknowns = x; asked = is; named = left ∙ ap six_numbers e; is_point = p; precedes = first };
     refused = record { only = λ r q. absurd (no-path cc); whenever = λ n h. absurd (no_refusal n h) };
     none = λ ok. (z, (is, (λ n. absurd (no-path cc), λ empty. absurd (empty x p))));
+    otherwise = λ h. absurd (h said);
   }
   answered-right no_refusal z is None none said left = record {
     named = λ q. absurd (no-path cc);
     refused = record { only = λ r q. absurd (no-path cc); whenever = λ n h. absurd (no_refusal n h) };
     none = λ ok. (z, (is, (λ n. none, λ empty. said)));
+    otherwise = λ h. left;
   }
 
   way-right : (t : Tree) → ((z : List ℕ) → MeetsContext S z → RightAnswer S z (answer_at t z)) → (o : Result (Option (List ℤ)) Refusal) → Way S t f.point o → f.answer ≡ said_of o → f.place ≡ left_of o → FindRight (Some S) f
-  way-right t right _ (long l) said left = refused-right PointLength 42 refl (inl (l, refl)) only said
+  way-right t right _ (long l) said left = refused-right PointLength 42 refl (inl (l, refl)) only said left
     where
       only : (n : ℕ) → Refuses (Some S) f.point n → n ≡ 42
       only n (inl h) = h.1
       only n (inr (inl h)) = absurd (l h.0)
       only n (inr (inr h)) = absurd (l h.0)
-  way-right t right _ (far l r) said left = refused-right PointNumber 43 refl (inr (inl (l, (r, refl)))) only said
+  way-right t right _ (far l r) said left = refused-right PointNumber 43 refl (inr (inl (l, (r, refl)))) only said left
     where
       only : (n : ℕ) → Refuses (Some S) f.point n → n ≡ 43
       only n (inl h) = absurd (h.0 l)
       only n (inr (inl h)) = h.1.1
       only n (inr (inr h)) = absurd (r h.1.0)
-  way-right t right _ (outside l r k) said left = refused-right OutsideKeep 44 refl (inr (inr (l, (r, (k, refl))))) only said
+  way-right t right _ (outside l r k) said left = refused-right OutsideKeep 44 refl (inr (inr (l, (r, (k, refl))))) only said left
     where
       only : (n : ℕ) → Refuses (Some S) f.point n → n ≡ 44
       only n (inl h) = absurd (h.0 l)
@@ -122,6 +126,7 @@ find-right None m h f g =
       named = λ q. no-path cc;
       refused = record { only = λ e q. (41, (ap report_of (sym (same e q)), refl)); whenever = λ n q. ap reported said ∙ ap Err (ap plain (sym q)) };
       none = not-ok f.answer NoTree said;
+      otherwise = λ _. g.1 ∙ ap (λ xs. left_of (found_in xs f.point)) h;
     }
 find-right (Some S) m h f g =
     let e : found_in m.nodes f.point ≡ asked S.p (context_of S) h.tree f.point =

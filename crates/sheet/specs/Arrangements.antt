@@ -6,7 +6,7 @@ use Rattle.solver.specs.Solves.{solve_answer, work_after}
 use Rattle.sheet.specs.Events.{Event, find, solve, wipe}
 use Rattle.sheet.specs.Sheets.{emptied, replaced, solved_here}
 
--- the call, made where the store means m, gives this
+-- the call, made where the store means m, answers and leaves what the event says
 abbrev pub Gives : Meaning → Event → Type 0
 Gives m (solve s) =
     let o = solved_here m s.system s.fuel s.room in

@@ -1,5 +1,5 @@
 -- Calls on a sheet, each with what it answered and left in its caller's memory; and the system that stands after them.
-use Rattle.std.specs.Prelude.{ℕ, List, [], ◌∷◌, ℤ, Some, None, Ok, Err, Option, Result}
+use Rattle.std.specs.Prelude.{ℕ, List, [], ◌∷◌, length, ℤ, Some, None, Ok, Err, Option, Result}
 use Rattle.base.specs.declared.refusal.Refusal.{Refusal}
 use Rattle.source.specs.Systems.{System}
 use Rattle.tree.specs.declared.node.Node.{Node}
@@ -14,13 +14,21 @@ pub record Solve : Type 0 where
   pub answer : Result Solved Refusal
   pub work : List Node
 
+-- the solve of this system with this fuel, and the work table before and after it
+abbrev pub solve_of : System → ℤ → List Node → Result Solved Refusal → List Node → Solve
+solve_of S fuel before answer after = record { system = S; room = length before; fuel = fuel; answer = answer; work = after }
+
 -- a find: its point; the answer, and the place of six as it was left
 pub record Find : Type 0 where
   pub point : List ℤ
   pub answer : Result Found Refusal
   pub place : List ℤ
 
--- a wipe has only an answer
+-- the find at this point, and the place of six after it
+abbrev pub find_of : List ℤ → Result Found Refusal → List ℤ → Find
+find_of point answer after = record { point = point; answer = answer; place = after }
+
+-- a call of one of three kinds; a wipe answers how many nodes went
 pub data Event : Type 0 where
   solve : Solve → Event
   find : Find → Event

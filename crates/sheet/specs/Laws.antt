@@ -1,12 +1,13 @@
 -- What holds of every arrangement of calls on a sheet.
-use Rattle.std.specs.Prelude.{◌≡◌, ◌≢◌, ℕ, ◌⊎◌, ◌↔◌, List, [], ◌∷◌, ◌++◌, map, length, ℤ, pos, ◌≤ℤ◌, ◌<ℤ◌, Some, None, Ok, Err, Option, IsOk}
-use Rattle.std.specs.List.{AllByRecursion}
+use Rattle.std.specs.Prelude.{◌≡◌, ◌≢◌, ℕ, ◌⊎◌, ◌↔◌, List, ◌∷◌, ◌++◌, map, length, ℤ, pos, ◌≤ℤ◌, ◌<ℤ◌, Some, None, Ok, Err, Option, IsOk}
+use Rattle.std.specs.List.{AllByRecursion, IsAmong}
 use Rattle.base.specs.declared.refusal.Refusal.{Refusal}
 use Rattle.base.specs.declared.refusal.Values.{Values}
 use Rattle.base.specs.declared.refusal.Values.TheVariants.{None as NoValues}
 use Rattle.base.specs.Refusals.{refused, report_of, reported}
 use Rattle.source.specs.Systems.{MeetsContext, Point, Precedes, System}
 use Rattle.tree.specs.declared.walk.Found.TheVariants.{Point as APoint, None as NoPoint}
+use Rattle.base.specs.Numbers.{zeros}
 use Rattle.tree.specs.Finds.{six_numbers}
 use Rattle.solver.specs.declared.run.Solved.{Solved}
 use Rattle.store.specs.Stores.{Costs, Meaning, fresh}
@@ -25,7 +26,7 @@ pub record NamesLeast (S : System) (point place : List ℤ) : Type 0 where
   pub is_point : Point S parameters unknowns
   pub precedes : (other : List ℕ) → Point S parameters other → (unknowns ≡ other) ⊎ Precedes unknowns other
 
--- a point that a find names is one of the standing system, and the first
+-- a point that a find names is a point of the standing system at the parameters asked, and precedes every other one there
 abbrev pub NamedRight : Option System → Find → Type 0
 NamedRight None f = f.answer ≢ Ok APoint
 NamedRight (Some S) f = f.answer ≡ Ok APoint → NamesLeast S f.point f.place
@@ -56,10 +57,15 @@ abbrev pub NoneRight : Option System → Find → Type 0
 NoneRight None f = ¬ IsOk f.answer
 NoneRight (Some S) f = IsOk f.answer → (z : List ℕ) × ((f.point ≡ map pos z) × ((f.answer ≡ Ok NoPoint) ↔ ((x : List ℕ) → ¬ Point S z x)))
 
+-- where it names no point it leaves six zeros
+abbrev pub ZerosOtherwise : Find → Type 0
+ZerosOtherwise f = f.answer ≢ Ok APoint → f.place ≡ zeros 6
+
 pub record FindRight (now : Option System) (f : Find) : Type 0 where
   pub named : NamedRight now f
   pub refused : RefusedRight now f
   pub none : NoneRight now f
+  pub otherwise : ZerosOtherwise f
 
 -- ---- solves
 -- their systems and the lengths of their work tables are equal
@@ -92,22 +98,17 @@ pub record SolvesRight (s r : Solve) : Type 0 where
   pub refused : RefusedAlike s r
 
 -- ---- arrangements
--- one of the events
-abbrev pub Among : Event → List Event → Type 0
-Among e [] = ⊥
-Among e (x ∷ xs) = (e ≡ x) ⊎ Among e xs
-
 -- as `solved` says of the system, the fuel and the length of the work table; refused by 23 where the tree costs more than the capacity
 abbrev pub AsSolved : ℕ → Costs → Solve → Type 0
 AsSolved capacity costs s =
     let o = solved_here (fresh capacity costs) s.system s.fuel s.room in
     (s.answer ≡ solve_answer o) × (s.work ≡ work_after s.system s.room o)
 
--- each find is right of the system that stands before it, each two solves alike are right of one another, and each is as `solved` says
+-- each find answers rightly for the system that stands before it, each two solves alike agree with one another, and each is as `solved` says
 pub record Right (capacity : ℕ) (costs : Costs) (events : List Event) : Type 0 where
   pub finds : (before later : List Event) (f : Find) → events ≡ before ++ find f ∷ later → FindRight (standing before) f
-  pub solves : (s r : Solve) → Among (solve s) events → Among (solve r) events → Alike s r → SolvesRight s r
-  pub as_solved : (s : Solve) → Among (solve s) events → AsSolved capacity costs s
+  pub solves : (s r : Solve) → IsAmong events (solve s) → IsAmong events (solve r) → Alike s r → SolvesRight s r
+  pub as_solved : (s : Solve) → IsAmong events (solve s) → AsSolved capacity costs s
 
 -- every arrangement of calls, over a store of whatever capacity and costs
 abbrev pub ArrangementsRight : Type 0
@@ -118,10 +119,10 @@ ArrangementsRight = (capacity : ℕ) (costs : Costs) (events : List Event) → A
 abbrev pub LeadsOn : Meaning → List Event → Meaning → Type 0
 LeadsOn m events n = (before : List Event) → LeadsTo before m → LeadsTo (before ++ events) n × Right m.capacity m.costs (before ++ events)
 
--- the next find is right of the system that stands after whatever arrangement leads there
+-- the next find answers rightly for the system that stands after whatever arrangement leads there
 abbrev pub NextFind : Meaning → Find → Type 0
 NextFind m f = (before : List Event) → LeadsTo before m → FindRight (standing before) f
 
--- the next solve and each one alike in whatever arrangement leads there are right of one another
+-- the next solve and each one alike in whatever arrangement leads there agree with one another
 abbrev pub NextSolve : Meaning → Solve → Type 0
-NextSolve m r = (before : List Event) → LeadsTo before m → (s : Solve) → Among (solve s) before → Alike s r → SolvesRight s r × SolvesRight r s
+NextSolve m r = (before : List Event) → LeadsTo before m → (s : Solve) → IsAmong before (solve s) → Alike s r → SolvesRight s r × SolvesRight r s

@@ -1,8 +1,8 @@
 -- What each call of a sheet answers and leaves, over what its store means.
-use Rattle.std.specs.Prelude.{ℕ, false, [], ℤ, Ok, Err, Result}
+use Rattle.std.specs.Prelude.{ℕ, false, ℤ, Ok, Err, Result}
 use Rattle.base.specs.declared.refusal.Refusal.{Refusal}
 use Rattle.source.specs.Systems.{System}
-use Rattle.store.specs.Stores.{Meaning, holding, install_answer}
+use Rattle.store.specs.Stores.{Meaning, fresh, holding, install_answer}
 use Rattle.tree.specs.Trees.{Tree}
 use Rattle.solver.specs.declared.count.Count.{Count}
 use Rattle.solver.specs.declared.count.Stopped.{Stopped}
@@ -10,7 +10,7 @@ use Rattle.solver.specs.declared.run.Solved.{Solved}
 use Rattle.solver.specs.Runs.{Outcome, stopped}
 use Rattle.solver.specs.Solves.{solved, written}
 
--- a tree that the store refuses to list is refused so, after the steps of its run
+-- if the tree costs more than the store's capacity the solve is refused by 23, after the steps of its run
 abbrev pub after_install : Result (Unit {0}) Refusal → Tree × Count → Outcome Tree
 after_install (Ok _) v = Ok v
 after_install (Err e) v = Err (stopped e v.1)
@@ -33,6 +33,6 @@ abbrev pub replaced : Meaning → System → Outcome Tree → Meaning
 replaced m S (Ok v) = holding m (written S v.0) false
 replaced m S (Err s) = m
 
--- closed, and no node listed: so a sheet is made, and so a wipe leaves it
+-- closed, and no node listed, as a fresh store: so a sheet is made, and so a wipe leaves it
 abbrev pub emptied : Meaning → Meaning
-emptied m = holding m [] false
+emptied m = fresh m.capacity m.costs

@@ -15,7 +15,7 @@ pub enum Call<S> {
 }
 
 /// What a call answered, and the place of six as a find left it.
-#[derive(Clone, Copy, Debug)]
+#[derive(Clone, Copy, PartialEq, Eq, Debug)]
 pub enum Answer {
     /// Of a solve.
     Solved(Result<Solved, Refusal>),

@@ -1,9 +1,7 @@
 //! Lists of calls, run on a sheet.
-ghost use Rattle.std.specs.Prelude.{◌≡◌, List, [], ◌∷◌, IfOk, OnErr, length};
-ghost use Rattle.sheet.specs.Events.{Event};
-ghost use Rattle.sheet.specs.Arrangements.{Gives, after};
-ghost use Rattle.sheet.specs.Laws.{LeadsOn};
-ghost use Rattle.sheet.specs.Logs.{Log, Logs, work_left};
+ghost use Rattle.std.specs.Prelude.{◌≡◌, IfOk, OnErr};
+ghost use Rattle.sheet.specs.Arrangements.{Reached};
+ghost use Rattle.sheet.specs.Logs.{MadeOne, Ran};
 
 use crate::call::{Answer, Call};
 use crate::sheet::Sheet;
@@ -14,7 +12,8 @@ use tree::node::Node;
 
 /// Makes one call.
 fn make<T: Store, S: Source>(sheet: &mut Sheet<T>, work: &mut [Node], call: &Call<S>) -> Answer
-    ensures made { (e : Event) × Logs S.meaning (length work.old) call.now result e × Gives sheet.old e × (sheet.new ≡ after sheet.old e) × (work.new ≡ work_left work.old (e ∷ [])) }
+    ensures made { MadeOne S.meaning call.now result sheet.old sheet.new work.old work.new }
+    ensures reached { ∥ Reached sheet.new ∥₁ }
 {
     match call {
         Call::Solve { source, fuel } => Answer::Solved(sheet.solve(source, work, *fuel)),
@@ -35,9 +34,12 @@ pub fn run<T: Store, S: Source>(
     work: &mut [Node],
     calls: &[Call<S>],
 ) -> Result<Vec<Answer>, AllocError>
-    ensures right { IfOk result (λ answers. (events : List Event) × Log S.meaning (length work.old) calls.now answers.items events × LeadsOn sheet.old events sheet.new × (work.new ≡ work_left work.old events)) }
+    ensures ran { IfOk result (λ answers. Ran S.meaning calls.now answers.items sheet.old sheet.new work.old work.new) }
+    ensures reached { ∥ Reached sheet.new ∥₁ }
     ensures untouched { OnErr result ((sheet.new ≡ sheet.old) × (work.new ≡ work.old)) }
 {
+    // of the sheet as it is handed in
+    sheet.was_reached();
     let mut answers = Vec::with_capacity(alloc, calls.len())?;
     for call in calls {
         answers.push_reserved(make(sheet, work, call));

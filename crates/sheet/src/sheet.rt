@@ -1,18 +1,19 @@
 //! The sheet.
-ghost use Rattle.std.specs.Prelude.{◌≡◌, [], ◌∷◌, length, replicate};
-ghost use Rattle.tree.specs.declared.node.Node.TheVariants.{None as Blank};
+ghost use Rattle.std.specs.Prelude.{◌≡◌, [], ◌∷◌, IfErr, IfOk, length};
 ghost use Rattle.store.specs.Stores.{node_at};
 ghost use Rattle.tree.specs.Finds.{found_in, left_of, said_of};
 ghost use Rattle.solver.specs.Runs.{stopped};
 ghost use Rattle.solver.specs.Solves.{counted_answer, solve_answer, work_after};
-ghost use Rattle.sheet.specs.Sheets.{emptied, replaced, solved_here, uncounted};
-ghost use Rattle.sheet.specs.Events.{find as find_made, solve as solve_made, wipe as wipe_made};
+ghost use Rattle.sheet.specs.Sheets.{emptied, replaced, solved_here, uncounted as without_count};
+ghost use Rattle.sheet.specs.Events.{find as find_made, find_of, solve as solve_made, solve_of, wipe as wipe_made};
 ghost use Rattle.sheet.specs.Arrangements.{LeadsTo, Reached};
 ghost use Rattle.sheet.specs.Laws.{LeadsOn, NextFind, NextSolve};
+ghost use Rattle.sheet.specs.Paged.{PageStands, RepliesAlike};
+ghost use Rattle.sheet.specs.Refused.{RefusalTold};
 
 use base::refusal::Refusal;
 use solver::count::{Count, Stopped};
-use solver::run::{Solved, solve_counted};
+use solver::run::{Solved, blank, solve_counted};
 use source::source::Source;
 use std::marker::Model;
 use store::ask;
@@ -29,22 +30,17 @@ fn empty<T: Store>(store: &mut T)
     let _ = store.scrap(draft);
 }
 
-/// Blanks all nodes.
-fn blank(work: &mut [Node])
-    ensures left { work.new ≡ replicate (length work.old) Blank }
-{
-    work.fill(Node::None);
-}
-
 /// A refusal that comes after the run of an accepted solve.
 fn after_run(solved: Solved, why: Refusal) -> Stopped
     ensures { result ≡ stopped why (record { steps = solved.steps; nodes = solved.nodes }) }
 {
-    let count = Count {
-        steps: solved.steps,
-        nodes: solved.nodes,
-    };
-    count.stop(why)
+    Stopped {
+        why,
+        count: Count {
+            steps: solved.steps,
+            nodes: solved.nodes,
+        },
+    }
 }
 
 /// Solves the source's system, and puts the tree into the store if it fits.
@@ -66,6 +62,13 @@ fn solve_on<T: Store, S: Source>(
             Err(after_run(solved, refusal))
         }
     }
+}
+
+/// The answer of a solve without the count that a refusal comes with.
+fn uncounted(answer: Result<Solved, Stopped>) -> Result<Solved, Refusal>
+    ensures { result ≡ without_count answer }
+{
+    answer.map_err(|stopped| stopped.why)
 }
 
 /// One store, which nothing else reaches. The nodes that it lists are the sheet's tree; to its callers a sheet is what
@@ -98,6 +101,7 @@ impl<T: Store> Sheet<T> {
         Sheet { store }
     }
 
+    // clause `right` follows from `law`: it is the form in which a caller needs it
     /// Solves the source's system. A tree that fits the store's capacity replaces the one before, and stands in the work
     /// table with blank nodes after it; refused, the tree stays, and the work table is all blank.
     pub fn solve<S: Source>(
@@ -109,11 +113,13 @@ impl<T: Store> Sheet<T> {
         ensures answer { result ≡ solve_answer (solved_here self.old (S.meaning source.now) fuel (length work.old)) }
         ensures work { work.new ≡ work_after (S.meaning source.now) (length work.old) (solved_here self.old (S.meaning source.now) fuel (length work.old)) }
         ensures left { self.new ≡ replaced self.old (S.meaning source.now) (solved_here self.old (S.meaning source.now) fuel (length work.old)) }
-        ensures right { NextSolve self.old (record { system = S.meaning source.now; room = length work.old; fuel = fuel; answer = result; work = work.new }) }
-        ensures law { LeadsOn self.old (solve_made (record { system = S.meaning source.now; room = length work.old; fuel = fuel; answer = result; work = work.new }) ∷ []) self.new }
+        ensures reached { ∥ Reached self.new ∥₁ }
+        ensures page { IfOk result (λ v. PageStands self.new.nodes v.nodes) }
+        ensures right { NextSolve self.old (solve_of (S.meaning source.now) fuel work.old result work.new) }
+        ensures law { LeadsOn self.old (solve_made (solve_of (S.meaning source.now) fuel work.old result work.new) ∷ []) self.new }
     {
-        self.solve_counted(source, work, fuel)
-            .map_err(|stopped| stopped.why)
+        let answer = self.solve_counted(source, work, fuel);
+        uncounted(answer)
     }
 
     /// As `solve`; a refusal comes with the steps and nodes counted by then.
@@ -126,19 +132,26 @@ impl<T: Store> Sheet<T> {
         ensures answer { result ≡ counted_answer (solved_here self.old (S.meaning source.now) fuel (length work.old)) }
         ensures work { work.new ≡ work_after (S.meaning source.now) (length work.old) (solved_here self.old (S.meaning source.now) fuel (length work.old)) }
         ensures left { self.new ≡ replaced self.old (S.meaning source.now) (solved_here self.old (S.meaning source.now) fuel (length work.old)) }
-        ensures right { NextSolve self.old (record { system = S.meaning source.now; room = length work.old; fuel = fuel; answer = uncounted result; work = work.new }) }
-        ensures law { LeadsOn self.old (solve_made (record { system = S.meaning source.now; room = length work.old; fuel = fuel; answer = uncounted result; work = work.new }) ∷ []) self.new }
+        ensures page { IfOk result (λ v. PageStands self.new.nodes v.nodes) }
+        ensures told { IfErr result (RefusalTold (S.meaning source.now) fuel (length work.old)) }
+        ensures reached { ∥ Reached self.new ∥₁ }
+        ensures right { NextSolve self.old (solve_of (S.meaning source.now) fuel work.old (without_count result) work.new) }
+        ensures law { LeadsOn self.old (solve_made (solve_of (S.meaning source.now) fuel work.old (without_count result) work.new) ∷ []) self.new }
     {
         solve_on(&mut self.store, source, work, fuel)
     }
 
-    /// Asks the sheet's tree at a parameter point: the n numbers of the point are left in the place, zeros after them.
+    // clause `right` follows from `law`: it is the form in which a caller needs it
+    /// Asks the sheet's tree at a parameter point: the n numbers of the point are left in the place, zeros after them. Where
+    /// there is none, and refused, the place holds zeros. Refused are, in this order: a sheet on which no system stands (41), a
+    /// point not of p numbers (42), a number not from 0 to 1,000,000 (43), a point outside the context (44).
     pub fn find(&self, point: &[i64], place: &mut [i64; 6]) -> Result<Found, Refusal>
         ensures answer { result ≡ said_of (found_in self.now.nodes point.now) }
         ensures left { place.new ≡ left_of (found_in self.now.nodes point.now) }
         ensures reached { ∥ Reached self.now ∥₁ }
-        ensures right { NextFind self.now (record { point = point.now; answer = result; place = place.new }) }
-        ensures law { LeadsOn self.now (find_made (record { point = point.now; answer = result; place = place.new }) ∷ []) self.now }
+        ensures page { RepliesAlike self.now (find_of point.now result place.new) }
+        ensures right { NextFind self.now (find_of point.now result place.new) }
+        ensures law { LeadsOn self.now (find_made (find_of point.now result place.new) ∷ []) self.now }
     {
         ask::find(&self.store, point, place)
     }
@@ -147,11 +160,19 @@ impl<T: Store> Sheet<T> {
     pub fn wipe(&mut self) -> usize
         ensures answer { result ≡ length self.old.nodes }
         ensures left { self.new ≡ emptied self.old }
+        ensures reached { ∥ Reached self.new ∥₁ }
         ensures law { LeadsOn self.old (wipe_made result ∷ []) self.new }
     {
         let count = self.store.count();
         empty(&mut self.store);
         count
+    }
+
+    /// Some arrangement of calls leads to every sheet.
+    pub fn was_reached(&self)
+        ensures reached { ∥ Reached self.now ∥₁ }
+    {
+        let _ = &self.store;
     }
 
     /// How many nodes the sheet's tree has.

@@ -24,7 +24,7 @@ pub struct Stopped {
 }
 
 impl Count {
-    /// How far the run has come, for a refusal met at this place.
+    /// Inner: how far the run has come, for a refusal met at this place.
     pub fn met(self, place: Place) -> Met
         ensures { result ≡ record { steps = self.steps; place = place } }
     {
@@ -35,14 +35,14 @@ impl Count {
     }
 
     /// A run that is refused here.
-    pub fn stop(self, why: Refusal) -> Stopped
+    pub(crate) fn stop(self, why: Refusal) -> Stopped
         ensures { result ≡ stopped why self }
     {
         Stopped { why, count: self }
     }
 
     /// A run that is refused because a number leaves the range at this place.
-    pub fn out_of_range(self, place: Place) -> Stopped
+    pub(crate) fn out_of_range(self, place: Place) -> Stopped
         ensures { result ≡ stopped_at Range place self }
     {
         self.stop(Refusal::Range(self.met(place)))

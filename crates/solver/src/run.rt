@@ -88,8 +88,8 @@ fn read_and_run<S: Source>(source: &S, work: &mut [Node], fuel: i64) -> Result<C
     run_state(&mut state, fuel as u32, work)
 }
 
-/// Blanks all nodes.
-fn blank(work: &mut [Node])
+/// Inner: blanks all nodes.
+pub fn blank(work: &mut [Node])
     ensures left { work.new ≡ replicate (length work.old) Blank }
 {
     work.fill(Node::None);

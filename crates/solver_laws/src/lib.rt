@@ -28,7 +28,7 @@ pub fn limits_stand()
     ensures { TreeLimits }
 {}
 
-/// The count of a refused solve tells the truth: its steps are those in the values of the refusal, none before the run.
+/// A refused solve tells, by its refusal's number and values and by its count, the steps made: none before the run.
 pub fn stops_stand()
     ensures { StopsTold }
 {}

@@ -14,6 +14,10 @@ counts_fit n p m k = nat_le 1 n && (nat_le n 6 && (nat_le p 4 && (nat_le m 16 &&
 abbrev pub counts_answer : ℕ → ℕ → ℕ → ℕ → Result (Unit {0}) Refusal
 counts_answer n p m k = cond (counts_fit n p m k) (Ok tt) (Err Counts)
 
+-- the same in numbers: 11
+abbrev pub counts_report : ℕ → ℕ → ℕ → ℕ → Result (Unit {0}) Report
+counts_report n p m k = cond (counts_fit n p m k) (Ok tt) (refused 11 No)
+
 -- a number lies from -1,000,000 to 1,000,000
 abbrev pub in_limits : ℤ → Bool
 in_limits x = nat_le (unsigned_abs x) 1000000

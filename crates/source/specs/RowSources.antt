@@ -2,6 +2,9 @@
 use Rattle.std.specs.Prelude.{ℕ, cond, List, [], ◌∷◌, ◌++◌, map, take, ℤ, is_ok, Ok, Err, Result}
 use Rattle.base.specs.declared.refusal.Refusal.{Refusal}
 use Rattle.base.specs.declared.refusal.Refusal.TheVariants.{Counts}
+use Rattle.base.specs.declared.refusal.Report.{Report}
+use Rattle.base.specs.declared.refusal.Values.TheVariants.{None}
+use Rattle.base.specs.Refusals.{refused}
 use Rattle.source.specs.Systems.{System}
 use Rattle.source.specs.Limits.{counts_fit}
 use Rattle.source.specs.declared.rows.table.Rows.{Rows}
@@ -28,3 +31,7 @@ bare n p = record { n = n; p = p; rows = []; context = [] }
 
 abbrev pub new_answer : ℕ → ℕ → Result System Refusal
 new_answer n p = cond (counts_fit n p 0 0) (Ok (bare n p)) (Err Counts)
+
+-- the same in numbers: 11
+abbrev pub new_report : ℕ → ℕ → Result System Report
+new_report n p = cond (counts_fit n p 0 0) (Ok (bare n p)) (refused 11 None)

@@ -2,7 +2,7 @@
 ghost use Rattle.std.specs.Prelude.{◌≡◌, ◌<◌, ◌≤◌, length, OnOk};
 ghost use Rattle.base.specs.Numbers.{AllWithin};
 ghost use Rattle.base.specs.Refusals.{reported};
-ghost use Rattle.source.specs.Limits.{counts_answer, first_outside, in_limits, numbers_answer, numbers_report, row_answer, row_report};
+ghost use Rattle.source.specs.Limits.{counts_answer, counts_report, first_outside, in_limits, numbers_answer, numbers_report, row_answer, row_report};
 
 use base::refusal::Refusal;
 
@@ -24,6 +24,7 @@ pub const MAX_NUMBER: u64 = 1_000_000;
 /// Refuses counts of unknowns, parameters, rows and context rows that no system may have.
 pub fn check_counts(n: usize, p: usize, m: usize, k: usize) -> Result<(), Refusal>
     ensures answer { result ≡ counts_answer n p m k }
+    ensures report { reported result ≡ counts_report n p m k }
     ensures fits { OnOk result ((1 ≤ n) × (n ≤ 6) × (p ≤ 4) × (m ≤ 16) × (k ≤ 8)) }
 {
     if n < 1 || n > MAX_UNKNOWNS || p > MAX_PARAMETERS || m > MAX_ROWS || k > MAX_CONTEXT_ROWS {

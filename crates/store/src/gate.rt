@@ -6,14 +6,15 @@ use base::refusal::Refusal;
 use std::marker::PhantomData;
 
 /// Lets nodes into a store of the kind `S`: open from when a draft is handed out until one is taken back. Only who has a
-/// mark of the kind can make one, so nobody but its store can.
+/// mark of the kind can make one: nobody but its store, where the mark's field is private to it.
 #[derive(Drop)]
 pub struct Gate<S> {
     is_open: bool,
     mark: S,
 }
 
-/// A draft of a store of the kind `S`, and of no other: only its gate makes one, and it is no `Drop`.
+/// A draft of a store of the kind `S`, and of no other: only a gate of that kind makes one, and takes it back, and it is no
+/// `Drop`.
 pub struct Draft<S> {
     of: PhantomData<S>,
 }

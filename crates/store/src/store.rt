@@ -10,7 +10,7 @@ use tree::node::Node;
 /// Where a tree is kept. Its meaning is the list of nodes, whether it is open, the capacity in
 /// units and what a node of each kind costs; every call is a definition over that meaning.
 pub trait Store {
-    /// The mark of its gate and drafts, and no other store's. A store chooses its mark only: its drafts are a gate's, so
+    /// The mark of its gate and drafts; let it be no other store's. A store chooses its mark only: its drafts are a gate's, so
     /// whatever the mark, one that is forgotten, or used after it was taken back, does not compile.
     type Mark;
 

@@ -1,4 +1,4 @@
 pub mod Sixes
 mod Sizes
-mod Turns
+pub mod Turns
 pub mod Walking

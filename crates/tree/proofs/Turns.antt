@@ -1,10 +1,11 @@
--- The turn of a walk from the keeps to the nodes below them.
-use Rattle.std.proofs.Common.{◌≡◌, ℕ, ◌+◌, ◌≤◌, List, ◌∷◌, ℤ, Ok, sym, refl, ap, ◌∙◌, arith}
+-- The turn of a walk from the keeps to the nodes below them, and what is told at its end.
+use Rattle.std.proofs.Common.{◌≡◌, ℕ, List, ◌∷◌, ℤ, Some, None, Ok, Err, Option, Result, sym, refl, ap, ◌∙◌, arith}
+use Rattle.base.specs.declared.refusal.Refusal.{Refusal}
 use Rattle.tree.specs.declared.node.Node.{Node}
 use Rattle.tree.specs.declared.node.Node.TheVariants.{Head as HeadNode, Keep, Split, New, Leaf, None as Blank}
 use Rattle.tree.specs.declared.state.Walk.{Walk}
-use Rattle.tree.specs.Finds.{kept_answer, walk}
-use Rattle.tree.specs.Walks.{Follows, Keeps, Nodes, Phase, answer_in, answer_of, in_six}
+use Rattle.tree.specs.Finds.{kept_answer, left_of, said_of, walk}
+use Rattle.tree.specs.Walks.{Follows, Keeps, Nodes, answer_in, answer_of, in_six, six_of}
 
 first-below : (n : ℕ) (ρ : List ℤ) (node : Node) (rest : List Node) → ((C : List ℤ) → node ≡ Keep C → ⊥) → kept_answer n ρ (node ∷ rest) ≡ Ok (walk n 0 0 ρ (node ∷ rest))
 first-below n ρ (HeadNode a b) rest h = refl
@@ -24,3 +25,14 @@ below-keeps w v u node h keeps below none n known f = (
       let same : in_six (Ok (walk w.n 0 0 w.known.setting (node ∷ rest))) ≡ in_six (Ok (walk v.n v.past v.known.made v.known.setting (node ∷ rest))) = cc in
       turn ∙ same ∙ sym there ∙ f.1 rest,
 )
+
+-- what is said and left of an answer is said and left of it with six numbers
+pub said-six : (a : Result (Option (List ℤ)) Refusal) → said_of (in_six a) ≡ said_of a
+said-six (Ok (Some values)) = refl
+said-six (Ok None) = refl
+said-six (Err e) = refl
+
+pub left-six : (a : Result (Option (List ℤ)) Refusal) → six_of (in_six a) ≡ left_of a
+left-six (Ok (Some values)) = refl
+left-six (Ok None) = refl
+left-six (Err e) = refl

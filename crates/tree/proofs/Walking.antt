@@ -1,5 +1,5 @@
 -- A walk over a tree's nodes answers as the tree does.
-use Rattle.std.proofs.Common.{◌≡◌, ℕ, suc, ◌-◌, ◌<◌, ◌≤◌, Bool, true, false, cond, ◌&&◌, T, eqb, ltb, leb, List, [], ◌∷◌, ◌++◌, map, length, replicate, ℤ, pos, negsuc, nat_abs, ◌≤ℤ◌, ◌<ℤ◌, Some, None, Ok, Err, Option, Result, sym, refl, ap, ◌∙◌, ap₂, append_assoc, append-nil}
+use Rattle.std.proofs.Common.{◌≡◌, ℕ, suc, ◌-◌, ◌<◌, ◌≤◌, Bool, true, false, cond, ◌&&◌, T, eqb, ltb, leb, List, [], ◌∷◌, ◌++◌, map, length, replicate, ℤ, pos, negsuc, nat_abs, ◌≤ℤ◌, ◌<ℤ◌, Some, None, Ok, Err, Result, sym, refl, ap, ◌∙◌, ap₂, append_assoc, append-nil}
 use lib.Signed.{le_z, lt_z}
 use Rattle.std.proofs.lemmas.List.{take_at, length-map}
 use Rattle.std.proofs.lemmas.Bool.{and_from, and_parts, cond-true, false≢true, le-leb, lt-ltb}
@@ -12,7 +12,7 @@ use Rattle.tree.specs.declared.node.Node.{Node}
 use Rattle.tree.specs.declared.node.Node.TheVariants.{Keep}
 use Rattle.tree.specs.Trees.{Tree, split, new, leaf, none, nodes}
 use Rattle.tree.specs.Answers.{answer_at, answer_from, gaining, setting, values_at}
-use Rattle.tree.specs.Limits.{NewFits, TreeFits, WithinLimits}
+use Rattle.tree.specs.Limits.{NewFits, TreeFits}
 use Rattle.tree.specs.Finds.{all_below, found_in, head_fits, is_point, kept_answer, point_answer, proper, spread, walk}
 use Rattle.tree.specs.Questions.{AnswersAsTree, AnswersWithinLimits, WellMade, all_nodes, asked, keeps_hold}
 

@@ -4,7 +4,9 @@ use Rattle.std.specs.List.{list_all}
 use Rattle.base.specs.declared.refusal.Refusal.{Refusal}
 use Rattle.base.specs.declared.refusal.Refusal.TheVariants.{NoTree, PointLength, PointNumber, OutsideKeep}
 use Rattle.base.specs.Forms.{value_at}
-use Rattle.base.specs.Refusals.{and_then}
+use Rattle.base.specs.declared.refusal.Report.{Report}
+use Rattle.base.specs.declared.refusal.Values.TheVariants.{None as No}
+use Rattle.base.specs.Refusals.{and_then, refused}
 use Rattle.tree.specs.declared.node.Node.{Node}
 use Rattle.tree.specs.declared.node.Node.TheVariants.{Head, Keep, Split, New, Leaf, None as Blank}
 use Rattle.tree.specs.declared.walk.Found.{Found}
@@ -66,6 +68,10 @@ head_fits n p = (nat_le 1 n && nat_le n 6) && nat_le p 4
 -- p numbers, each from 0 to 1,000,000
 abbrev pub point_answer : ℕ → List ℤ → Result (Unit {0}) Refusal
 point_answer p point = cond (length point == p) (cond (is_point point) (Ok tt) (Err PointNumber)) (Err PointLength)
+
+-- the same in numbers: 42 or 43
+abbrev pub point_report : ℕ → List ℤ → Result (Unit {0}) Report
+point_report p point = cond (length point == p) (cond (is_point point) (Ok tt) (refused 43 No)) (refused 42 No)
 
 -- what a question to the list comes to: a point, none, or why it is refused
 abbrev pub found_in : List Node → List ℤ → Result (Option (List ℤ)) Refusal

@@ -1,5 +1,5 @@
 -- What a walk answers from where it has come to.
-use Rattle.std.specs.Prelude.{◌≡◌, ◌+◌, ◌≤◌, Bool, true, false, List, [], ◌∷◌, replicate, ℤ, pos, Some, None, Ok, Err, Option, Result}
+use Rattle.std.specs.Prelude.{◌≡◌, ◌+◌, ◌≤◌, Bool, true, false, List, ◌∷◌, replicate, ℤ, pos, Some, None, Ok, Err, Option, Result}
 use Rattle.base.specs.declared.refusal.Refusal.{Refusal}
 use Rattle.tree.specs.declared.node.Node.{Node}
 use Rattle.tree.specs.declared.state.Walk.{Walk}

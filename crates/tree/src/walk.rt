@@ -1,6 +1,7 @@
 //! What a list of nodes answers at a parameter point.
 ghost use Rattle.std.specs.Prelude.{◌≡◌, true, OnOk, length};
-ghost use Rattle.tree.specs.Finds.{all_below, found_in, head_fits, is_point, left_of, point_answer, said_of};
+ghost use Rattle.base.specs.Refusals.{reported};
+ghost use Rattle.tree.specs.Finds.{all_below, found_in, head_fits, is_point, left_of, point_answer, point_report, said_of};
 ghost use Rattle.tree.specs.Questions.{AnswersAsTree, AnswersWithinLimits};
 
 use crate::node::{Node, NodeForm};
@@ -18,7 +19,7 @@ pub enum Found {
     None,
 }
 
-/// Whether each number is from 0 to d - 1.
+/// Inner: whether each number is from 0 to d - 1.
 pub fn all_below(form: &NodeForm, d: i32) -> bool
     ensures value { result ≡ all_below d form.now }
 {
@@ -26,22 +27,23 @@ pub fn all_below(form: &NodeForm, d: i32) -> bool
 }
 
 /// Whether each number is from 0 to 1,000,000.
-pub fn is_point(point: &[i64]) -> bool
+pub(crate) fn is_point(point: &[i64]) -> bool
     ensures value { result ≡ is_point point.now }
 {
     point.iter().all(|x| (0..=LARGEST).contains(x))
 }
 
-/// Whether a head is within the limits.
+/// Inner: whether a head is within the limits.
 pub fn head_fits(n: u8, p: u8) -> bool
     ensures value { result ≡ head_fits n p }
 {
     (1..=6).contains(&n) && p <= 4
 }
 
-/// Refuses what is no point of p parameters: 42 if it is not of p numbers, 43 if one is not from 0 to 1,000,000.
+/// Inner: refuses what is no point of p parameters: 42 if it is not of p numbers, 43 if one is not from 0 to 1,000,000.
 pub fn check_point(point: &[i64], p: usize) -> Result<(), Refusal>
     ensures answer { result ≡ point_answer p point.now }
+    ensures report { reported result ≡ point_report p point.now }
     ensures accepted { OnOk result ((length point.now ≡ p) × (is_point point.now ≡ true)) }
 {
     if point.len() != p {

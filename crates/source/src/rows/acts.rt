@@ -2,7 +2,7 @@
 ghost use Rattle.std.specs.Prelude.{◌≡◌, ◌≤◌, length, take};
 ghost use Rattle.base.specs.Refusals.{reported};
 ghost use Rattle.source.specs.Enters.{enter_answer, enter_report, entered, confine_answer, confine_report, confined};
-ghost use Rattle.source.specs.RowSources.{meaning_of, meant, new_answer};
+ghost use Rattle.source.specs.RowSources.{meaning_of, meant, new_answer, new_report};
 
 use super::RowSource;
 use super::table::Rows;
@@ -14,6 +14,7 @@ impl RowSource {
     /// A system of n unknowns and p parameters, with no row yet.
     pub fn new(n: usize, p: usize) -> Result<RowSource, Refusal>
         ensures answer { meant result ≡ new_answer n p }
+        ensures report { reported (meant result) ≡ new_report n p }
     {
         check_counts(n, p, 0, 0)?;
         Ok(RowSource {

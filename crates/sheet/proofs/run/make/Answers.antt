@@ -18,6 +18,7 @@ returns-in-Solve g c =
     let fit = to_z-of_z w64 i.fuel f in
     let e = solve (record { system = S; room = n; fuel = i.fuel; answer = c.solve.result; work = c.solve.new.work }) in
     record {
+      reached = h.reached;
       made = (
         e,
         subst (λ call. Logs g.S.Source.meaning n call (Solved c.solve.result) e) (sym i.is) (c.solve.new.work, refl),
@@ -30,9 +31,9 @@ returns-in-Solve g c =
 pub returns-in-Find : goal.returns-in-Find
 returns-in-Find g c =
     let e = find (record { point = c.deref.result.now; answer = c.find-said.result; place = c.find-said.new.place }) in
-    record { made = (e, subst (λ call. Logs g.S.Source.meaning (length c.args.work.now) call (Found c.find-said.result c.find-said.new.place) e) (sym c.in-Find.is) (ap (λ p. find (record { point = p; answer = c.find-said.result; place = c.find-said.new.place })) c.deref.ensures.value), (c.find-said.ensures.answer, c.find-said.ensures.left), refl, refl) }
+    record { reached = c.find-said.ensures.reached; made = (e, subst (λ call. Logs g.S.Source.meaning (length c.args.work.now) call (Found c.find-said.result c.find-said.new.place) e) (sym c.in-Find.is) (ap (λ p. find (record { point = p; answer = c.find-said.result; place = c.find-said.new.place })) c.deref.ensures.value), (c.find-said.ensures.answer, c.find-said.ensures.left), refl, refl) }
 
 pub returns-in-Wipe : goal.returns-in-Wipe
 returns-in-Wipe g c =
     let e = wipe c.wipe.result in
-    record { made = (e, subst (λ call. Logs g.S.Source.meaning (length c.args.work.now) call (Wiped c.wipe.result) e) (sym c.in-Wipe.is) refl, c.wipe.ensures.answer, c.wipe.ensures.left, refl) }
+    record { reached = c.wipe.ensures.reached; made = (e, subst (λ call. Logs g.S.Source.meaning (length c.args.work.now) call (Wiped c.wipe.result) e) (sym c.in-Wipe.is) refl, c.wipe.ensures.answer, c.wipe.ensures.left, refl) }

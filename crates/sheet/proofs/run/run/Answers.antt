@@ -2,7 +2,7 @@ use Rattle.std.proofs.Common.{◌≡◌, ◌+◌, ◌≤◌, [], ◌∷◌, ◌+
 use Rattle.std.proofs.lemmas.List.{take_all, take_more}
 use Rattle.sheet.specs.Arrangements.{Gives, after}
 use Rattle.sheet.specs.Logs.{Log, Logs, work_left}
-use Rattle.sheet.proofs.Arranged.{leads-on}
+use Rattle.sheet.proofs.Arranged.{leads-on, reach-on}
 use Rattle.sheet.proofs.Running.{after-append, log-more, made-append, work-append}
 use Rattle.sheet.proofs.run.run.Goals as goal
 
@@ -29,12 +29,20 @@ loop-call-preserved g c =
       subst (λ n. length xs ≤ n) (sym c.push_reserved.ensures.capacity) i.6,
     )
 
-pub returns-clause-right : goal.returns-clause-right
-returns-clause-right g c =
+pub returns-clause-ran : goal.returns-clause-ran
+returns-clause-ran g c =
     let i = c.loop-call.invariant in
     let xs = c.args.calls.now in (
       i.0,
       subst (λ cs. Log g.S.Source.meaning (length c.args.work.now) cs c.loop-call.answers.items i.0) (take_all c.loop-call.call-index xs c.loop-call-test.false) i.1,
+      i.2,
+      i.3,
       leads-on c.args.sheet.now i.0 c.loop-call.sheet i.2 i.3,
       i.4,
     )
+
+pub returns-clause-reached : goal.returns-clause-reached
+returns-clause-reached g c =
+    let i = c.loop-call.invariant in
+    let m = c.args.sheet.now in
+    reach-on m i.0 c.loop-call.sheet (leads-on m i.0 c.loop-call.sheet i.2 i.3) c.was_reached.ensures.reached

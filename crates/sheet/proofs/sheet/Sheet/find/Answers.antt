@@ -4,6 +4,7 @@ use Rattle.tree.specs.Finds.{found_in, left_of, said_of}
 use Rattle.sheet.specs.Arrangements.{Reached}
 use Rattle.sheet.specs.Events.{find}
 use Rattle.sheet.proofs.Arranged.{next, next-find}
+use Rattle.sheet.proofs.Paging.{replies-alike}
 use Rattle.sheet.proofs.sheet.Sheet.find.Goals as goal
 
 pub returns-clause-law : goal.returns-clause-law
@@ -20,3 +21,9 @@ returns-clause-right g c =
 
 pub returns-clause-reached : goal.returns-clause-reached
 returns-clause-reached g c = subst (λ m. ∥ Reached m ∥₁) c.self.view_is c.self.invariant
+
+pub returns-clause-page : goal.returns-clause-page
+returns-clause-page g c =
+    let p = c.args.point.now in
+    replies-alike c.args.self.now (record { point = p; answer = c.find.result; place = c.find.new.place })
+    (c.find.ensures.answer ∙ ap (λ (m : Meaning). said_of (found_in m.nodes p)) c.self.view_is, c.find.ensures.left ∙ ap (λ (m : Meaning). left_of (found_in m.nodes p)) c.self.view_is)

@@ -12,3 +12,6 @@ pub returns-clause-law : goal.returns-clause-law
 returns-clause-law g c =
     next c.args.self.now (wipe c.count-count.result) _
     (c.count-count.ensures.answer ∙ ap (λ (m : Meaning). length m.nodes) c.self.view_is) (c.empty.ensures.left ∙ ap emptied c.self.view_is)
+
+pub returns-clause-reached : goal.returns-clause-reached
+returns-clause-reached g c = invariant_of-self g c
