@@ -1,6 +1,7 @@
 //! A listing solved on a sheet, and its answer as text.
 ghost use Rattle.std.specs.Prelude.{◌≡◌, length, IfOk, string_bytes};
 ghost use Rattle.listing.specs.Solving.{answer_text, sheet_left, text_solved, work_left};
+ghost use Rattle.listing.specs.Texts.{tree_text};
 
 use crate::read::read;
 use crate::show::{RefusalText, TreeText};
@@ -40,6 +41,15 @@ pub fn nodes_of<T: Store>(heap: Global, sheet: &Sheet<T>) -> Result<Vec<Node>, A
     Ok(nodes)
 }
 
+/// A sheet's tree and the steps made, as text.
+fn sheet_text<T: Store>(heap: Global, sheet: &Sheet<T>, steps: u32) -> Result<String, AllocError>
+    ensures made { IfOk result (λ s. string_bytes s ≡ tree_text sheet.now.nodes steps) }
+{
+    let nodes = nodes_of(heap, sheet)?;
+    let nodes = nodes.as_slice();
+    TreeText { nodes, steps }.to_string(heap)
+}
+
 /// What is printed for a listing: its solution tree and the steps, or by which number it is refused.
 pub fn answer_text(heap: Global, text: &[u8]) -> Result<String, AllocError>
     ensures made { IfOk result (λ s. string_bytes s ≡ answer_text text.now) }
@@ -48,14 +58,7 @@ pub fn answer_text(heap: Global, text: &[u8]) -> Result<String, AllocError>
     let table = vec![in heap; Node::None; WORK]?;
     let mut sheet = Sheet::new(NodeStore::new(table));
     match solve_text(&mut sheet, text, &mut work) {
-        Ok(solved) => {
-            let nodes = nodes_of(heap, &sheet)?;
-            TreeText {
-                nodes: nodes.as_slice(),
-                steps: solved.steps,
-            }
-            .to_string(heap)
-        }
+        Ok(solved) => sheet_text(heap, &sheet, solved.steps),
         Err(refusal) => RefusalText(refusal).to_string(heap),
     }
 }
