@@ -1,12 +1,12 @@
 //! A nest solved on a sheet, and the question for its latest posting.
-ghost use Rattle.std.specs.Prelude.{◌≡◌, length, OnOk};
+ghost use Rattle.std.specs.Prelude.{◌≡◌, OnOk};
 ghost use Rattle.tree.specs.Finds.{said_of};
-ghost use Rattle.solver.specs.Solves.{solve_answer, work_after};
 ghost use Rattle.nest.specs.Acts.{nest_of};
 ghost use Rattle.nest.specs.Backs.{turned_back};
 ghost use Rattle.nest.specs.Tables.{system_of};
 ghost use Rattle.sheet.specs.Arrangements.{Reached};
-ghost use Rattle.sheet.specs.Sheets.{replaced, solved_here};
+ghost use Rattle.sheet.specs.Events.{find_of};
+ghost use Rattle.sheet.specs.Sheets.{solve_says, store_after, table_after};
 ghost use Rattle.postings.specs.Latest.{latest_in, left_of, turned};
 ghost use Rattle.postings.specs.Laws.{NextLatest, Stands};
 
@@ -25,9 +25,9 @@ pub fn solve<T: Store>(
     work: &mut [Node],
     fuel: i64,
 ) -> Result<Solved, Refusal>
-    ensures answer { result ≡ solve_answer (solved_here sheet.old (system_of (nest_of nest.now)) fuel (length work.old)) }
-    ensures work { work.new ≡ work_after (system_of (nest_of nest.now)) (length work.old) (solved_here sheet.old (system_of (nest_of nest.now)) fuel (length work.old)) }
-    ensures left { sheet.new ≡ replaced sheet.old (system_of (nest_of nest.now)) (solved_here sheet.old (system_of (nest_of nest.now)) fuel (length work.old)) }
+    ensures answer { result ≡ solve_says sheet.old (system_of (nest_of nest.now)) fuel work.old }
+    ensures work { work.new ≡ table_after sheet.old (system_of (nest_of nest.now)) fuel work.old }
+    ensures left { sheet.new ≡ store_after sheet.old (system_of (nest_of nest.now)) fuel work.old }
     ensures stands { OnOk result (Stands (nest_of nest.now) sheet.new) }
 {
     sheet.solve(nest, work, fuel)
@@ -82,7 +82,7 @@ pub fn latest<T: Store>(
     ensures answer { result ≡ said_of (latest_in sheet.now.nodes (nest_of nest.now) point.now) }
     ensures left { counters.new ≡ left_of (latest_in sheet.now.nodes (nest_of nest.now) point.now) }
     ensures reached { ∥ Reached sheet.now ∥₁ }
-    ensures law { NextLatest sheet.now (nest_of nest.now) (record { point = point.now; answer = result; place = counters.new }) }
+    ensures law { NextLatest sheet.now (nest_of nest.now) (find_of point.now result counters.new) }
 {
     ask(sheet, nest, point, counters)
 }

@@ -34,6 +34,16 @@ pub data Event : Type 0 where
   find : Find → Event
   wipe : ℕ → Event
 
+-- a list of one event
+abbrev pub one_solve : System → ℤ → List Node → Result Solved Refusal → List Node → List Event
+one_solve S fuel before answer after = solve (solve_of S fuel before answer after) ∷ []
+
+abbrev pub one_find : List ℤ → Result Found Refusal → List ℤ → List Event
+one_find point answer after = find (find_of point answer after) ∷ []
+
+abbrev pub one_wipe : ℕ → List Event
+one_wipe n = wipe n ∷ []
+
 -- the system that stands after a solve, by its answer alone: its own if it is accepted
 abbrev pub standing_by : Option System → System → Result Solved Refusal → Option System
 standing_by now S (Ok v) = Some S

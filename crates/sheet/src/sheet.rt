@@ -1,11 +1,10 @@
 //! The sheet.
-ghost use Rattle.std.specs.Prelude.{◌≡◌, [], ◌∷◌, IfErr, IfOk, length};
+ghost use Rattle.std.specs.Prelude.{◌≡◌, [], IfErr, IfOk, length};
 ghost use Rattle.store.specs.Stores.{node_at};
 ghost use Rattle.tree.specs.Finds.{found_in, left_of, said_of};
 ghost use Rattle.solver.specs.Runs.{stopped};
-ghost use Rattle.solver.specs.Solves.{counted_answer, solve_answer, work_after};
-ghost use Rattle.sheet.specs.Sheets.{emptied, replaced, solved_here, uncounted as without_count};
-ghost use Rattle.sheet.specs.Events.{find as find_made, find_of, solve as solve_made, solve_of, wipe as wipe_made};
+ghost use Rattle.sheet.specs.Sheets.{emptied, solve_counts, solve_says, store_after, table_after, uncounted as without_count};
+ghost use Rattle.sheet.specs.Events.{find_of, one_find, one_solve, one_wipe, solve_of};
 ghost use Rattle.sheet.specs.Arrangements.{LeadsTo, Reached};
 ghost use Rattle.sheet.specs.Laws.{LeadsOn, NextFind, NextSolve};
 ghost use Rattle.sheet.specs.Paged.{PageStands, RepliesAlike};
@@ -50,9 +49,9 @@ fn solve_on<T: Store, S: Source>(
     work: &mut [Node],
     fuel: i64,
 ) -> Result<Solved, Stopped>
-    ensures answer { result ≡ counted_answer (solved_here (T.meaning store.old) (S.meaning source.now) fuel (length work.old)) }
-    ensures work { work.new ≡ work_after (S.meaning source.now) (length work.old) (solved_here (T.meaning store.old) (S.meaning source.now) fuel (length work.old)) }
-    ensures left { T.meaning store.new ≡ replaced (T.meaning store.old) (S.meaning source.now) (solved_here (T.meaning store.old) (S.meaning source.now) fuel (length work.old)) }
+    ensures answer { result ≡ solve_counts (T.meaning store.old) (S.meaning source.now) fuel work.old }
+    ensures work { work.new ≡ table_after (T.meaning store.old) (S.meaning source.now) fuel work.old }
+    ensures left { T.meaning store.new ≡ store_after (T.meaning store.old) (S.meaning source.now) fuel work.old }
 {
     let solved = solve_counted(source, work, fuel)?;
     match install(store, work, solved.nodes) {
@@ -110,13 +109,13 @@ impl<T: Store> Sheet<T> {
         work: &mut [Node],
         fuel: i64,
     ) -> Result<Solved, Refusal>
-        ensures answer { result ≡ solve_answer (solved_here self.old (S.meaning source.now) fuel (length work.old)) }
-        ensures work { work.new ≡ work_after (S.meaning source.now) (length work.old) (solved_here self.old (S.meaning source.now) fuel (length work.old)) }
-        ensures left { self.new ≡ replaced self.old (S.meaning source.now) (solved_here self.old (S.meaning source.now) fuel (length work.old)) }
+        ensures answer { result ≡ solve_says self.old (S.meaning source.now) fuel work.old }
+        ensures work { work.new ≡ table_after self.old (S.meaning source.now) fuel work.old }
+        ensures left { self.new ≡ store_after self.old (S.meaning source.now) fuel work.old }
         ensures reached { ∥ Reached self.new ∥₁ }
         ensures page { IfOk result (λ v. PageStands self.new.nodes v.nodes) }
         ensures right { NextSolve self.old (solve_of (S.meaning source.now) fuel work.old result work.new) }
-        ensures law { LeadsOn self.old (solve_made (solve_of (S.meaning source.now) fuel work.old result work.new) ∷ []) self.new }
+        ensures law { LeadsOn self.old (one_solve (S.meaning source.now) fuel work.old result work.new) self.new }
     {
         let answer = self.solve_counted(source, work, fuel);
         uncounted(answer)
@@ -129,14 +128,14 @@ impl<T: Store> Sheet<T> {
         work: &mut [Node],
         fuel: i64,
     ) -> Result<Solved, Stopped>
-        ensures answer { result ≡ counted_answer (solved_here self.old (S.meaning source.now) fuel (length work.old)) }
-        ensures work { work.new ≡ work_after (S.meaning source.now) (length work.old) (solved_here self.old (S.meaning source.now) fuel (length work.old)) }
-        ensures left { self.new ≡ replaced self.old (S.meaning source.now) (solved_here self.old (S.meaning source.now) fuel (length work.old)) }
+        ensures answer { result ≡ solve_counts self.old (S.meaning source.now) fuel work.old }
+        ensures work { work.new ≡ table_after self.old (S.meaning source.now) fuel work.old }
+        ensures left { self.new ≡ store_after self.old (S.meaning source.now) fuel work.old }
         ensures page { IfOk result (λ v. PageStands self.new.nodes v.nodes) }
         ensures told { IfErr result (RefusalTold (S.meaning source.now) fuel (length work.old)) }
         ensures reached { ∥ Reached self.new ∥₁ }
         ensures right { NextSolve self.old (solve_of (S.meaning source.now) fuel work.old (without_count result) work.new) }
-        ensures law { LeadsOn self.old (solve_made (solve_of (S.meaning source.now) fuel work.old (without_count result) work.new) ∷ []) self.new }
+        ensures law { LeadsOn self.old (one_solve (S.meaning source.now) fuel work.old (without_count result) work.new) self.new }
     {
         solve_on(&mut self.store, source, work, fuel)
     }
@@ -151,7 +150,7 @@ impl<T: Store> Sheet<T> {
         ensures reached { ∥ Reached self.now ∥₁ }
         ensures page { RepliesAlike self.now (find_of point.now result place.new) }
         ensures right { NextFind self.now (find_of point.now result place.new) }
-        ensures law { LeadsOn self.now (find_made (find_of point.now result place.new) ∷ []) self.now }
+        ensures law { LeadsOn self.now (one_find point.now result place.new) self.now }
     {
         ask::find(&self.store, point, place)
     }
@@ -161,7 +160,7 @@ impl<T: Store> Sheet<T> {
         ensures answer { result ≡ length self.old.nodes }
         ensures left { self.new ≡ emptied self.old }
         ensures reached { ∥ Reached self.new ∥₁ }
-        ensures law { LeadsOn self.old (wipe_made result ∷ []) self.new }
+        ensures law { LeadsOn self.old (one_wipe result) self.new }
     {
         let count = self.store.count();
         empty(&mut self.store);
