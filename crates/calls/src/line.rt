@@ -31,7 +31,7 @@ pub(crate) enum Line {
     Call(Call<RowSource>),
     /// That the sheet's tree is to be printed.
     Tree,
-    /// Nothing that can be done.
+    /// No line of a script, or one that is refused before its call is made.
     Refused(Refusal),
 }
 
@@ -76,7 +76,7 @@ fn numbers(alloc: Global, text: &[u8]) -> Result<Option<Vec<i64>>, AllocError> {
     Ok(Some(numbers))
 }
 
-/// What a line says that stands alone.
+/// This line, if no word follows; else it is refused.
 fn alone(line: Line, rest: &[u8]) -> Line {
     if is_end(rest) {
         line

@@ -58,14 +58,14 @@ impl Batch {
 
 /// A sheet at work.
 #[derive(Drop)]
-struct Session<T: Store> {
+struct AtWork<T: Store> {
     sheet: Sheet<T>,
     work: Vec<Node>,
     /// How many unknowns the standing system has.
     unknowns: usize,
 }
 
-impl<T: Store> Session<T> {
+impl<T: Store> AtWork<T> {
     /// Prints the answer of a call.
     fn show<W: Write>(
         &mut self,
@@ -138,7 +138,7 @@ fn serve<T: Store + Drop, W: Write>(
     script: &[u8],
     out: &mut W,
 ) -> anyhow::Result<()> {
-    let mut session = Session {
+    let mut at_work = AtWork {
         sheet: Sheet::new(store),
         work: vec![in alloc; Node::None; wanted.work]?,
         unknowns: 0,
@@ -152,12 +152,12 @@ fn serve<T: Store + Drop, W: Write>(
             Line::Store(_) | Line::Work(_) => batch.refuse(Refusal::Listing)?,
             Line::Tree => {
                 let calls = mem::replace(&mut batch, Batch::new(alloc));
-                session.make(alloc, &calls, out)?;
-                session.show_tree(alloc, out)?;
+                at_work.make(alloc, &calls, out)?;
+                at_work.show_tree(alloc, out)?;
             }
         }
     }
-    session.make(alloc, &batch, out)
+    at_work.make(alloc, &batch, out)
 }
 
 /// Prints what the lines of a script are answered.

@@ -13,7 +13,7 @@ use store::node_store::NodeStore;
 use store::store::Store;
 use tree::node::Node;
 
-/// The nodes that the work table of a listing holds, and its store.
+/// How many nodes the work table of a listing has, and its store too.
 pub const WORK: usize = 64;
 
 /// Reads a listing and solves it on the sheet. A text that is refused leaves the sheet and the work table as they were.

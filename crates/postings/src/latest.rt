@@ -33,7 +33,7 @@ pub fn solve<T: Store>(
     sheet.solve(nest, work, fuel)
 }
 
-/// Turns a point that was found back.
+/// Turns a found point back into counters.
 fn turn_back(
     nest: &Nest,
     point: &[i64],

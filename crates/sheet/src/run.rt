@@ -38,7 +38,7 @@ pub fn run<T: Store, S: Source>(
     ensures reached { ∥ Reached sheet.new ∥₁ }
     ensures untouched { OnErr result ((sheet.new ≡ sheet.old) × (work.new ≡ work.old)) }
 {
-    // of the sheet as it is handed in
+    // some arrangement leads to the sheet as it is handed in: clause `reached`, where no call is made
     sheet.was_reached();
     let mut answers = Vec::with_capacity(alloc, calls.len())?;
     for call in calls {

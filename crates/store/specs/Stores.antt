@@ -55,6 +55,10 @@ free m = m.capacity - used m.costs m.nodes
 abbrev pub passed : Bool → Result (Unit {0}) Refusal
 passed b = cond b (Ok tt) (Err StoreClosed)
 
+-- the same in numbers
+abbrev pub passed_report : Bool → Result (Unit {0}) Report
+passed_report b = cond b (Ok tt) (refused 25 No)
+
 -- what is left by a call: a refusal alters nothing
 abbrev pub unless_refused : Result (Unit {0}) Refusal → Meaning → Meaning → Meaning
 unless_refused (Ok _) after before = after

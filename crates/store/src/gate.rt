@@ -1,12 +1,13 @@
 //! The gate of a store, and the drafts that it hands out.
 ghost use Rattle.std.specs.Prelude.{◌≡◌, true, false};
-ghost use Rattle.store.specs.Stores.{passed};
+ghost use Rattle.base.specs.Refusals.{reported};
+ghost use Rattle.store.specs.Stores.{passed, passed_report};
 
 use base::refusal::Refusal;
 use std::marker::PhantomData;
 
-/// Lets nodes into a store of the kind `S`: open from when a draft is handed out until one is taken back. Only who has a
-/// mark of the kind can make one: nobody but its store, where the mark's field is private to it.
+/// Lets nodes into a store of the kind `S`: open from when a draft is handed out until one is taken back. Making
+/// one takes a mark of the kind, so only its store can, where the mark's field is private.
 #[derive(Drop)]
 pub struct Gate<S> {
     is_open: bool,
@@ -41,6 +42,7 @@ impl<S> Gate<S> {
     /// Lets a draft's node in: 25 where it is closed.
     pub fn pass(&self, _draft: &Draft<S>) -> Result<(), Refusal>
         ensures answer { result ≡ passed self.now.is_open }
+        ensures report { reported result ≡ passed_report self.now.is_open }
     {
         if self.is_open {
             Ok(())
@@ -52,6 +54,7 @@ impl<S> Gate<S> {
     /// Takes a draft back and closes: 25 where it is closed already. The draft is gone either way.
     pub fn close(&mut self, draft: Draft<S>) -> Result<(), Refusal>
         ensures answer { result ≡ passed self.old.is_open }
+        ensures report { reported result ≡ passed_report self.old.is_open }
         ensures left { self.new.is_open ≡ false }
     {
         let passed = self.pass(&draft);
