@@ -66,36 +66,48 @@ fn the_worked_tree_stands_on_a_sheet(rt: HostRuntime) -> Result<(), Fail> {
 }
 
 #[test]
-fn a_refused_solve_leaves_the_tree_and_tells_its_steps(rt: HostRuntime) -> Result<(), Fail> {
-    let mut sheet = bytes(&rt, 571)?;
-    let source = half()?;
-    let mut work = [WORKED[1]; 6];
-    assert_eq!(rt; sheet.solve(&source, &mut work, 12), Ok(SOLVED));
+fn a_work_table_of_four_is_full(rt: HostRuntime) -> Result<(), Fail> {
+    let mut sheet = five_nodes(&rt)?;
     let met = Met {
         steps: 12,
         place: Place::Node,
     };
-    let full = Err(Refusal::WorkFull(met));
-    assert_eq!(rt; sheet.solve(&source, &mut work[..4], 12), full);
-    all_blank(&rt, &work[..4]);
-    let mut kept = source;
-    kept.confine(&[1, 0])?;
-    let too_large = Stopped {
+    let mut four = [WORKED[1]; 4];
+    let answer = sheet.solve(&half()?, &mut four, 12);
+    assert_eq!(rt; answer, Err(Refusal::WorkFull(met)));
+    all_blank(&rt, &four);
+    Ok(())
+}
+
+#[test]
+fn in_570_bytes_no_tree_stands(rt: HostRuntime) -> Result<(), Fail> {
+    let mut sheet = bytes(&rt, 570)?;
+    let mut work = [WORKED[1]; 6];
+    let answer = sheet.solve(&half()?, &mut work, 12);
+    assert_eq!(rt; answer, Err(Refusal::StoreFull));
+    all_blank(&rt, &work);
+    says(&rt, &sheet, 3, Err(Refusal::NoTree), 0);
+    Ok(())
+}
+
+#[test]
+fn a_tree_of_612_bytes_leaves_the_one_of_571(rt: HostRuntime) -> Result<(), Fail> {
+    let mut sheet = bytes(&rt, 571)?;
+    let mut source = half()?;
+    let mut work = [WORKED[1]; 6];
+    assert_eq!(rt; sheet.solve(&source, &mut work, 12), Ok(SOLVED));
+    source.confine(&[1, 0])?;
+    let full = Stopped {
         why: Refusal::StoreFull,
         count: Count {
             steps: 12,
             nodes: 6,
         },
     };
-    let answer = sheet.solve_counted(&kept, &mut work, 100);
-    assert_eq!(rt; answer, Err(too_large));
+    let answer = sheet.solve_counted(&source, &mut work, 100);
+    assert_eq!(rt; answer, Err(full));
     all_blank(&rt, &work);
     says(&rt, &sheet, 3, Ok(Found::Point), 2);
-    let mut sheet = bytes(&rt, 570)?;
-    let answer = sheet.solve(&source, &mut work, 12);
-    assert_eq!(rt; answer, Err(Refusal::StoreFull));
-    all_blank(&rt, &work);
-    says(&rt, &sheet, 3, Err(Refusal::NoTree), 0);
     Ok(())
 }
 
