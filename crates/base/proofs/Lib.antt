@@ -1,5 +1,6 @@
 pub mod There
 pub mod Fill
+pub mod Loops
 pub mod Products
 pub mod Values
 pub mod Gcds

@@ -27,7 +27,7 @@ fn all_small(numbers: &[i64]) -> bool
 }
 
 /// Refuses numbers that are not `width` many, whose place is not below `places`, or that are out of limits.
-pub(crate) fn check_given(
+pub fn check_given(
     numbers: &[i64],
     width: usize,
     place: usize,

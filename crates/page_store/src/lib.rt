@@ -2,4 +2,5 @@
 #![tactic(auto)]
 
 pub mod page_store;
-mod read;
+pub mod read;
+pub mod write;

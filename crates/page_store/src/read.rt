@@ -11,8 +11,8 @@ use tree::kind::Kind;
 use tree::node::Node;
 
 // Three lines as at the end of `page::back::node_at`: its contract speaks of one record, and of no page.
-/// The node whose record stands first.
-pub(crate) fn first_node(bytes: &[u8]) -> Node
+/// Inner: the node whose record stands first.
+pub fn first_node(bytes: &[u8]) -> Node
     ensures value { (x : TheNode) (rest : List ℕ) → holdable x ≡ true → bytes.now ≡ record_of x ++ rest → result ≡ x }
 {
     match read(bytes) {
@@ -21,16 +21,16 @@ pub(crate) fn first_node(bytes: &[u8]) -> Node
     }
 }
 
-/// The node whose record begins at a place.
-pub(crate) fn node_from(page: &[u8], at: usize) -> Node
+/// Inner: the node whose record begins at a place.
+pub fn node_from(page: &[u8], at: usize) -> Node
     requires { at ≤ length page.now }
     ensures value { (x : TheNode) (rest : List ℕ) → holdable x ≡ true → drop at page.now ≡ record_of x ++ rest → result ≡ x }
 {
     first_node(&page[at..])
 }
 
-/// How many bytes a record has, by its first one.
-pub(crate) fn length_of(kind: u8) -> usize
+/// Inner: how many bytes a record has, by its first one.
+pub fn length_of(kind: u8) -> usize
     ensures value { result ≡ length_by kind }
 {
     Kind::try_from(kind).map_or(1, record_length)

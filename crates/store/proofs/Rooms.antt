@@ -2,7 +2,7 @@
 use Rattle.std.proofs.Common.{◌≡◌, ℕ, ◌+◌, ◌<◌, ◌≤◌, Bool, true, false, List, [], ◌∷◌, ◌++◌, length, get_or, take, Ok, Err, sym, refl, ap, ◌∙◌, ap₂, ⊎_elim, arith}
 use Rattle.std.specs.List.{sum_by}
 use Rattle.std.proofs.lemmas.List.{take_more}
-use Rattle.std.proofs.lemmas.List.Sums.{sum_by-cons, sum_by-take-le, sum_by_push}
+use Rattle.std.proofs.lemmas.List.Sums.{sum_by-append, sum_by-cons, sum_by-take-le, sum_by_push}
 use Rattle.std.proofs.lemmas.Bool.{lt-ltb, le-ltb, le-leb, lt-leb, cases_lt}
 use Rattle.base.specs.declared.refusal.Refusal.TheVariants.{StoreFull}
 use Rattle.tree.specs.Kinds.{kind_of}
@@ -11,6 +11,10 @@ use Rattle.tree.specs.declared.kind.Kind.{Kind}
 use Rattle.tree.specs.declared.kind.Kind.TheVariants as kinds
 use Rattle.store.specs.Stores.{Costs, Meaning, cost_of, used, free, holding, passed, put_answer, after_put, install_answer, installed}
 use Rattle.store.specs.NodeStores.{unit_costs}
+
+-- two lists, one after the other
+pub used-append : (costs : Costs) (xs ys : List Node) → used costs (xs ++ ys) ≡ used costs xs + used costs ys
+used-append costs xs ys = sum_by-append (λ x. cost_of costs (kind_of x)) xs ys
 
 -- the first i nodes, and one more, which costs u
 pub used-more : (costs : Costs) (xs : List Node) (i u : ℕ) (d : Node) → i < length xs → u ≡ cost_of costs (kind_of (get_or xs i d)) → used costs (take (i + 1) xs) ≡ used costs (take i xs) + u

@@ -26,8 +26,8 @@ pub fn all_below(form: &NodeForm, d: i32) -> bool
     form.iter().all(|x| (0..d).contains(x))
 }
 
-/// Whether each number is from 0 to 1,000,000.
-pub(crate) fn is_point(point: &[i64]) -> bool
+/// Inner: whether each number is from 0 to 1,000,000.
+pub fn is_point(point: &[i64]) -> bool
     ensures value { result ≡ is_point point.now }
 {
     point.iter().all(|x| (0..=LARGEST).contains(x))

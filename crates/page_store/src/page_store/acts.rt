@@ -7,8 +7,9 @@ ghost use Rattle.page_store.specs.PageStores.{bytes_after_put, bytes_of, meaning
 
 use super::{PageDraft, PageStore, Pages};
 use crate::read::{length_of, node_from};
+use crate::write::write_record;
 use base::refusal::Refusal;
-use page::write::{put_at, record_length};
+use page::write::record_length;
 use store::gate::Gate;
 use store::store::Store;
 use tree::kind::Kind;
@@ -76,7 +77,7 @@ fn write(page: &mut Vec<u8>, at: usize, node: &Node)
     ensures size { vec_len page.new ≡ vec_len page.old }
     ensures numbers { holdable node.now ≡ true }
 {
-    put_at(node, page.as_mut_slice(), at);
+    write_record(page.as_mut_slice(), at, node);
 }
 
 // The trait speaks of the meaning. What stands in the page after the listed part is said here besides.
