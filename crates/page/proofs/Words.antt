@@ -1,7 +1,7 @@
 -- Four bytes and back, and so for lists of numbers and of forms.
-use Rattle.std.proofs.Common.{◌≡◌, ℕ, zero, suc, ◌+◌, ◌*◌, ◌/◌, ◌%◌, ◌^◌, ◌<◌, ◌≤◌, List, [], ◌∷◌, ◌++◌, length, get_or, drop, ℤ, sym, refl, ap, ◌∙◌, subst, ap₂, append_assoc, append-nil, arith, length-append, length-drop, to_z-of_z, w32, Fits, SFits, to_z, of_z}
+use Rattle.std.proofs.Common.{◌≡◌, ℕ, zero, suc, ◌+◌, ◌*◌, ◌/◌, ◌%◌, ◌^◌, ◌<◌, ◌≤◌, List, [], ◌∷◌, ◌++◌, length, get_or, drop, ℤ, sym, refl, ap, ◌∙◌, subst, ap₂, append_assoc, append-nil, arith, length-append, length-drop, to_z-of_z, w32, Fits, SFits, to_z, of_z, add-zero}
 use mir.Facts.{Fits-of_z, of_z-to_z}
-use Rattle.std.proofs.lemmas.List.{drop_all, drop_at, drop-drop, ext_get_or}
+use Rattle.std.proofs.lemmas.List.{drop_all, drop_at, drop-drop, ext_get_or, get_or-drop}
 use Rattle.page.specs.Words.{Bytes, Fit32, all_bytes, bytes, forms, forms_bytes, word, words}
 
 digits : (n : ℕ) → n < 2 ^ 32 → n / 16777216 % 256 * 16777216 + n / 65536 % 256 * 65536 + n / 256 % 256 * 256 + n % 256 ≡ n
@@ -109,6 +109,9 @@ forms-of (C ∷ Cs) r h =
     (ap (forms (length Cs)) (ap (drop 40) e ∙ drop_at (all_bytes C) (forms_bytes Cs ++ r) 40 (length-form C h.0)) ∙ forms-of Cs r h.1)
 
 -- ---- numbers by their places
+
+pub word-drop : (b : List ℕ) (i : ℕ) → word (drop i b) ≡ to_z w32 (get_or b i 0 * 16777216 + get_or b (i + 1) 0 * 65536 + get_or b (i + 2) 0 * 256 + get_or b (i + 3) 0)
+word-drop b i = simp (get_or-drop, add-zero)
 
 get_d_words : (n : ℕ) (b : List ℕ) (k : ℕ) (d : ℤ) → k < n → get_or (words n b) k d ≡ word (drop (4 * k) b)
 unfolding words

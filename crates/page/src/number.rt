@@ -1,5 +1,5 @@
 //! The numbers of a record: four bytes each, highest first, two's complement; and their limits.
-ghost use Rattle.std.specs.Prelude.{◌≡◌, ◌^◌, ◌&&◌, drop, pos, if◌then◌else◌, int_le};
+ghost use Rattle.std.specs.Prelude.{◌≡◌, ◌+◌, ◌^◌, ◌≤◌, ◌&&◌, length, drop, pos, if◌then◌else◌, int_le};
 ghost use Rattle.page.specs.Fits.{form_fits, leaf_fits, new_fits, number_fits, usable};
 ghost use Rattle.base.specs.Numbers.{all_zero};
 ghost use Rattle.page.specs.Words.{forms, word, words};
@@ -10,6 +10,26 @@ use tree::walk::all_below;
 
 /// The largest divisor of a new parameter: 2^30.
 const LARGEST: i32 = 1 << 30;
+
+/// Inner: the number in the four bytes from `at` on.
+pub fn word_at(bytes: &[u8], at: usize) -> i32
+    requires inside { at + 4 ≤ length bytes.now }
+    ensures value { result ≡ word (drop at bytes.now) }
+{
+    i32::from_be_bytes([bytes[at], bytes[at + 1], bytes[at + 2], bytes[at + 3]])
+}
+
+/// Inner: the ten numbers of a form, in the forty bytes from `at` on.
+pub fn form_at(bytes: &[u8], at: usize) -> NodeForm
+    requires inside { at + 40 ≤ length bytes.now }
+    ensures value { result ≡ words 10 (drop at bytes.now) }
+{
+    let mut form = [0; 10];
+    for k in 0..10 {
+        form[k] = word_at(bytes, at + 4 * k);
+    }
+    form
+}
 
 /// Inner: the number of four bytes.
 pub fn word_of(bytes: &[u8; 4]) -> i32
@@ -42,13 +62,14 @@ pub fn new_of(bytes: &[u8; 44]) -> (i32, NodeForm)
 }
 
 // Twin of `form_of` but for two lengths: a filler over a closure and both would be longer than the two loops.
-/// Inner: the six forms of a leaf.
-pub fn forms_of(bytes: &[u8; 240]) -> [NodeForm; 6]
+/// Inner: the six forms of a leaf, in the first 240 bytes.
+pub fn forms_of(bytes: &[u8]) -> [NodeForm; 6]
+    requires inside { 240 ≤ length bytes.now }
     ensures value { result ≡ forms 6 bytes.now }
 {
     let (parts, _) = bytes.as_chunks::<40>();
     let mut forms = [[0; 10]; 6];
-    for (k, part) in parts.iter().enumerate() {
+    for (k, part) in parts[..6].iter().enumerate() {
         forms[k] = form_of(part);
     }
     forms
