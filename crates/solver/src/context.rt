@@ -19,10 +19,10 @@ pub struct Context {
     pub count: usize,
     pub parameters: usize,
     pub made: usize,
-    ghost room: { count ≤ 31 },
-    ghost few: { parameters ≤ 4 },
-    ghost few_made: { made ≤ 5 },
-    ghost small: { (k : ℕ) → k < count → AllWithin (2 ^ 30) (slice_index_or forms k []) },
+    pub ghost room: { count ≤ 31 },
+    pub ghost few: { parameters ≤ 4 },
+    pub ghost few_made: { made ≤ 5 },
+    pub ghost small: { (k : ℕ) → k < count → AllWithin (2 ^ 30) (slice_index_or forms k []) },
 }
 
 impl Context {

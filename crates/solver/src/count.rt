@@ -1,5 +1,5 @@
 //! Steps and nodes, counted in each result.
-ghost use Rattle.std.specs.Prelude.{◌≡◌, IfOk, MatchBool, nat_lt};
+ghost use Rattle.std.specs.Prelude.{◌≡◌, IfOk, MatchBool, if◌then◌else◌, nat_lt};
 ghost use Rattle.base.specs.declared.refusal.Refusal.TheVariants.{FuelSpent, Range};
 ghost use Rattle.solver.specs.Bounds.{Moved};
 ghost use Rattle.solver.specs.Runs.{met_at, stopped, stopped_at};
@@ -71,16 +71,28 @@ pub fn tick(place: Place, fuel: u32, count: Count) -> Result<Count, Stopped>
     })
 }
 
+/// Inner: the refusal of a step that may not be made: spent fuel is said first.
+pub fn barred(refusal: Refusal, place: Place, fuel: u32, count: Count) -> Stopped
+    ensures value { result.why ≡ (if nat_lt count.steps fuel then refusal else FuelSpent (met_at place count)) }
+    ensures count { result.count ≡ count }
+{
+    count.stop(if has_fuel(fuel, count) {
+        refusal
+    } else {
+        Refusal::FuelSpent(count.met(place))
+    })
+}
+
 /// Inner: the refusal of a step that may not be made, by its case: spent fuel is said first.
-pub fn barred<F: FnOnce(Met) -> Refusal>(why: F, place: Place, fuel: u32, count: Count) -> Stopped
+pub fn barred_by<F: FnOnce(Met) -> Refusal>(
+    why: F,
+    place: Place,
+    fuel: u32,
+    count: Count,
+) -> Stopped
     requires { F.IsAlwaysCallable why }
     ensures value { MatchBool (nat_lt count.steps fuel) (F.post why (met_at place count) result.why) (result.why ≡ FuelSpent (met_at place count)) }
     ensures count { result.count ≡ count }
 {
-    let met = count.met(place);
-    count.stop(if has_fuel(fuel, count) {
-        why(met)
-    } else {
-        Refusal::FuelSpent(met)
-    })
+    barred(why(count.met(place)), place, fuel, count)
 }

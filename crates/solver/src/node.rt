@@ -10,7 +10,7 @@ ghost use Rattle.solver.specs.Ends.{Planted, splitting};
 ghost use Rattle.solver.specs.Rules.{node, where_form};
 ghost use Rattle.solver.specs.Ties.{limits, solution_of, work_of};
 
-use crate::count::{Count, Stopped, barred, tick};
+use crate::count::{Count, Stopped, barred_by, tick};
 use crate::settle::{End, narrow, settle, write};
 use crate::state::State;
 use base::divisor::Divisor;
@@ -81,7 +81,7 @@ fn split(
     ensures stepped { IfOk result (Stepped fuel start) }
 {
     if state.left == 0 {
-        return Err(barred(Refusal::Depth, Place::Node, fuel, start));
+        return Err(barred_by(Refusal::Depth, Place::Node, fuel, start));
     }
     let form = state.table.rows[h].form;
     let count = tick(Place::Node, fuel, start)?;

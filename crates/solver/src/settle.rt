@@ -11,7 +11,7 @@ ghost use Rattle.solver.specs.Rules.{Work, cut, settle, solving};
 ghost use Rattle.solver.specs.Runs.{Run, next};
 ghost use Rattle.solver.specs.Ties.{WroteIf, limits, noted_in, work_of};
 
-use crate::count::{Count, Stopped, barred, tick};
+use crate::count::{Count, Stopped, barred_by, tick};
 use crate::sign::{Scan, scan_rows};
 use crate::state::State;
 use crate::test::CUTS;
@@ -104,8 +104,9 @@ fn cut_constant(state: &mut State, x: &Cut, fuel: u32, count: Count) -> Result<C
     ensures nodes { IfOk result (λ c. c.nodes ≡ count.nodes) }
     ensures moved { IfOk result (Moved fuel count) }
 {
+    let next = tick(Place::Node, fuel, count)?;
     state.cuts += 1;
-    add_cut(&mut state.table, x, Place::Node, fuel, count)
+    add_row(&mut state.table, x.row(None), Place::Node, fuel, next)
 }
 
 /// The cut with a new parameter.
@@ -149,14 +150,14 @@ fn cut_row(
     ensures moved { IfOk result (Moved fuel count) }
 {
     if state.cuts >= CUTS {
-        return Err(barred(Refusal::Cuts, Place::Node, fuel, count));
+        return Err(barred_by(Refusal::Cuts, Place::Node, fuel, count));
     }
     let x = cut_of(&state.table.rows[h]);
     if x.is_constant() {
         return cut_constant(state, &x, fuel, count);
     }
     if state.context.made >= NEW {
-        return Err(barred(Refusal::NewParameters, Place::Node, fuel, count));
+        return Err(barred_by(Refusal::NewParameters, Place::Node, fuel, count));
     }
     cut_parameter(state, &x, fuel, work, count)
 }

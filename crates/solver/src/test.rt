@@ -11,7 +11,7 @@ ghost use Rattle.solver.specs.Runs.{Run, next};
 ghost use Rattle.solver.specs.Ties.{KnownAs, first_negative, limits, test_of, tested};
 
 use crate::context::{Added, Context};
-use crate::count::{Count, Stopped, barred};
+use crate::count::{Count, Stopped, barred_by};
 use crate::start::test_table;
 use crate::turn::{add_cut, turn};
 use base::form::{CONSTANT, Form};
@@ -60,7 +60,7 @@ fn cut_plain(
     ensures moved { IfOk result (Moved fuel count) }
 {
     if cuts >= CUTS {
-        return Err(barred(Refusal::Cuts, Place::Test, fuel, count));
+        return Err(barred_by(Refusal::Cuts, Place::Test, fuel, count));
     }
     let x = cut_of(&t.rows[h]);
     add_cut(t, &x, Place::Test, fuel, count)

@@ -87,7 +87,7 @@ split-returns-then-state-eq0 t c =
     let l = limits c.args.fuel (length w) in
     record {
       value = split-barred x.left (work_of x) C c.args.fuel (length w) c.args.start (omega arith)
-          ∙ ap Err (barred-is _ _ _ _ _ _ c.barred.ensures.value c.barred.ensures.count);
+          ∙ ap Err (barred-is _ _ _ _ _ _ c.barred_by.ensures.value c.barred_by.ensures.count);
       stepped = tt;
     }
 

@@ -19,7 +19,7 @@ returns-then-state-ge-CUTS c =
         tt,
         λ again.
             cut-many Node again (work_of x) (cut_of row) c.args.fuel (length w) c.args.count (omega (arith, c.requires.ready.cuts))
-            ∙ ap Err (barred-is _ _ _ _ _ _ c.barred.ensures.value c.barred.ensures.count),
+            ∙ ap Err (barred-is _ _ _ _ _ _ c.barred_by.ensures.value c.barred_by.ensures.count),
       );
       ready = tt;
       left = refl;
@@ -52,7 +52,7 @@ returns-then-state-ge-NEW c =
         tt,
         λ again.
             cut-fifth again (work_of x) (cut_of row) c.args.fuel (length w) c.args.count (omega (arith, c.requires.ready.cuts)) (ap is_constant (sym c.cut_of-x.ensures) ∙ sym c.if-is_constant.ensures) (omega (arith, c.args.state.now.context.few_made))
-            ∙ ap Err (barred-is _ _ _ _ _ _ c.barred-then-state-ge-NEW.ensures.value c.barred-then-state-ge-NEW.ensures.count),
+            ∙ ap Err (barred-is _ _ _ _ _ _ c.barred_by-then-state-ge-NEW.ensures.value c.barred_by-then-state-ge-NEW.ensures.count),
       );
       ready = tt;
       left = refl;

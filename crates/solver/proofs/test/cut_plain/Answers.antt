@@ -18,7 +18,7 @@ returns-then-cuts-ge-CUTS c =
     record {
       value = λ again n.
           cut-many Test again (test_of t c.args.cuts) (cut_of row) c.args.fuel n c.args.count (omega (arith, c.requires.few))
-          ∙ ap Err (barred-is _ _ _ _ _ _ c.barred.ensures.value c.barred.ensures.count);
+          ∙ ap Err (barred-is _ _ _ _ _ _ c.barred_by.ensures.value c.barred_by.ensures.count);
       constants = tt;
       ready = tt;
       counts = tt;
