@@ -1,4 +1,5 @@
 pub mod Sixes
 mod Sizes
+mod Points
 pub mod Turns
 pub mod Walking

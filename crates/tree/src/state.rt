@@ -54,141 +54,104 @@ impl<'a> Walk<'a> {
         }
     }
 
-    /// The walk with its answer.
-    fn over(&self, answer: Result<Option<[i64; 6]>, Refusal>) -> Self
-        ensures phase { result.phase ≡ IsOver answer }
-        ensures past { result.past ≡ self.now.past }
+    /// Ends the walk with its answer.
+    fn end(&mut self, answer: Result<Option<[i64; 6]>, Refusal>)
+        ensures phase { self.new.phase ≡ IsOver answer }
+        ensures past { self.new.past ≡ self.old.past }
     {
-        Walk {
-            point: self.point,
-            phase: Phase::Over(answer),
-            n: self.n,
-            past: self.past,
-            known: self.known,
-        }
+        self.phase = Phase::Over(answer);
     }
 
-    /// The walk below the keeps, with so many trees to pass over first.
-    fn passing(&self, past: usize) -> Self
-        ensures phase { result.phase ≡ AtNodes }
-        ensures past { result.past ≡ past }
-        ensures rest { (result.n ≡ self.now.n) × (result.known ≡ self.now.known) }
-    {
-        Walk {
-            point: self.point,
-            phase: Phase::Nodes,
-            n: self.n,
-            past,
-            known: self.known,
-        }
-    }
-
-    /// The walk below the keeps, with other parameters known.
-    fn knowing(&self, known: Known) -> Self
-        ensures phase { result.phase ≡ AtNodes }
-        ensures known { result.known ≡ known }
-        ensures rest { (result.n ≡ self.now.n) × (result.past ≡ self.now.past) }
-    {
-        Walk {
-            point: self.point,
-            phase: Phase::Nodes,
-            n: self.n,
-            past: self.past,
-            known,
-        }
-    }
-
-    /// After the first node.
-    fn after_head(&self, node: &Node) -> Self
-        requires phase { self.now.phase ≡ AtHead }
-        ensures follows { Follows self.now node.now result }
+    /// Sees the first node.
+    fn see_head(&mut self, node: &Node)
+        requires phase { self.old.phase ≡ AtHead }
+        ensures follows { Follows self.old node.now self.new }
     {
         match node {
             Node::Head { n, p } if head_fits(*n, *p) => {
                 match check_point(self.point, usize::from(*p)) {
-                    Ok(()) => Walk {
-                        point: self.point,
-                        phase: Phase::Keeps,
-                        n: usize::from(*n),
-                        past: 0,
-                        known: Known::of(self.point),
-                    },
-                    Err(refusal) => self.over(Err(refusal)),
+                    Ok(()) => {
+                        self.known = Known::of(self.point);
+                        self.phase = Phase::Keeps;
+                        self.n = usize::from(*n);
+                        self.past = 0;
+                    }
+                    Err(refusal) => self.end(Err(refusal)),
                 }
             }
-            _ => self.over(Err(Refusal::NoTree)),
+            _ => self.end(Err(Refusal::NoTree)),
         }
     }
 
-    /// After a keep, or the first node below the keeps.
-    fn after_keep(&self, node: &Node) -> Self
-        requires phase { self.now.phase ≡ Keeps }
-        ensures follows { Follows self.now node.now result }
+    /// Goes on to the nodes below the keeps.
+    fn leave_keeps(&mut self)
+        ensures phase { self.new.phase ≡ AtNodes }
+        ensures past { self.new.past ≡ 0 }
+        ensures rest { (self.new.n ≡ self.old.n) × (self.new.known ≡ self.old.known) }
+    {
+        self.phase = Phase::Nodes;
+        self.past = 0;
+    }
+
+    /// Sees a keep, or the first node below the keeps.
+    fn see_keep(&mut self, node: &Node)
+        requires phase { self.old.phase ≡ Keeps }
+        ensures follows { Follows self.old node.now self.new }
     {
         match node {
             Node::Keep(form) => {
-                if self.known.holds(form) {
-                    *self
-                } else {
-                    self.over(Err(Refusal::OutsideKeep))
+                if !self.known.holds(form) {
+                    self.end(Err(Refusal::OutsideKeep));
                 }
             }
-            _ => self.passing(0).visit(node),
+            _ => {
+                self.leave_keeps();
+                self.visit(node);
+            }
         }
     }
 
-    /// After a node of a tree that is passed over.
-    fn pass(&self, node: &Node) -> Self
-        requires phase { self.now.phase ≡ AtNodes }
-        requires some { 0 < self.now.past }
-        requires room { self.now.past < 18446744073709551615 }
-        ensures follows { Follows self.now node.now result }
+    /// Sees a node of a tree that is passed over.
+    fn pass(&mut self, node: &Node)
+        requires phase { self.old.phase ≡ AtNodes }
+        requires some { 0 < self.old.past }
+        requires room { self.old.past < 18446744073709551615 }
+        ensures follows { Follows self.old node.now self.new }
     {
         match node {
-            Node::Split(_) => self.passing(self.past + 1),
-            Node::New { d: _, form: _ } => *self,
-            Node::Leaf(_) | Node::None => self.passing(self.past - 1),
-            Node::Head { n: _, p: _ } | Node::Keep(_) => self.over(Ok(None)),
+            Node::Split(_) => self.past += 1,
+            Node::New { d: _, form: _ } => (),
+            Node::Leaf(_) | Node::None => self.past -= 1,
+            Node::Head { n: _, p: _ } | Node::Keep(_) => self.end(Ok(None)),
         }
     }
 
-    /// After a node that the walk goes through.
-    fn visit(&self, node: &Node) -> Self
-        requires phase { self.now.phase ≡ AtNodes }
-        requires here { self.now.past ≡ 0 }
-        ensures follows { Follows self.now node.now result }
+    // inlined at both its calls: the walk of a question then stays out of memory for the most part
+    /// Sees a node that the walk goes through.
+    #[inline(always)]
+    fn visit(&mut self, node: &Node)
+        requires phase { self.old.phase ≡ AtNodes }
+        requires here { self.old.past ≡ 0 }
+        ensures follows { Follows self.old node.now self.new }
     {
         match node {
             Node::Split(form) => {
-                if self.known.holds(form) {
-                    *self
-                } else {
-                    self.passing(1)
+                if !self.known.holds(form) {
+                    self.past = 1;
                 }
             }
             Node::New { d, form } => {
                 if self.known.may_gain(*d, form) {
-                    self.knowing(self.known.gain(*d, form))
+                    self.known.gain(*d, form);
                 } else {
-                    self.over(Ok(None))
+                    self.end(Ok(None));
                 }
             }
-            Node::Leaf(forms) => self.over(Ok(Some(self.known.leaf_values(forms, self.n)))),
-            Node::None | Node::Head { n: _, p: _ } | Node::Keep(_) => self.over(Ok(None)),
-        }
-    }
-
-    /// After one node more.
-    fn after(&self, node: &Node) -> Self
-        requires room { self.now.past < 18446744073709551615 }
-        ensures follows { Follows self.now node.now result }
-    {
-        match self.phase {
-            Phase::Head => self.after_head(node),
-            Phase::Keeps => self.after_keep(node),
-            Phase::Nodes if self.past > 0 => self.pass(node),
-            Phase::Nodes => self.visit(node),
-            Phase::Over(_) => *self,
+            Node::Leaf(forms) => {
+                let six = self.known.leaf_values(forms, self.n);
+                self.end(Ok(Some(six)));
+            }
+            Node::None | Node::Head { n: _, p: _ } | Node::Keep(_) => self.end(Ok(None)),
         }
     }
 
@@ -197,7 +160,13 @@ impl<'a> Walk<'a> {
         requires room { self.old.past < 18446744073709551615 }
         ensures follows { Follows self.old node.now self.new }
     {
-        *self = self.after(node);
+        match self.phase {
+            Phase::Head => self.see_head(node),
+            Phase::Keeps => self.see_keep(node),
+            Phase::Nodes if self.past > 0 => self.pass(node),
+            Phase::Nodes => self.visit(node),
+            Phase::Over(_) => (),
+        }
     }
 
     /// Inner: whether the answer is the same whatever nodes are still to come.

@@ -5,12 +5,12 @@ use Rattle.tree.specs.Parts.{NoneBelow, total}
 use Rattle.tree.proofs.Sizes.{few_made, gained}
 use Rattle.tree.proofs.known.Known.gain.Goals as goal
 
-pub invariant_of-result : goal.invariant_of-result
-invariant_of-result c =
+pub invariant_of-self : goal.invariant_of-self
+invariant_of-self c =
     let s = c.args.self.now in
     let d = c.args.d in
     let T = c.args.form.now in
-    let e : to_z w64 (of_z w64 c.floor_div.result) ≡ floor_by d (value_at T s.setting) = search rules in
+    let e : to_z w64 (of_z w64 c.floor_div-number.result) ≡ floor_by d (value_at T s.setting) = search rules in
     let g = gained s.made d T s.setting c.requires.proper s.above s.small in
     record {
       few = few_made s.made d T c.requires.proper;

@@ -1,13 +1,22 @@
-use Rattle.std.proofs.Common.{◌-◌, ◌≤◌, ◌++◌, length, drop, replicate, pos, sym, ap, ◌∙◌, subst, arith}
-use Rattle.std.proofs.lemmas.List.{drop-replicate}
+use Rattle.std.proofs.Common.{◌≡◌, ◌-◌, ◌≤◌, [], ◌∷◌, length, pos, sym, ◌∙◌, subst, arith, w64, SFits, to_z, of_z, to_z-of_z, rules}
+use Rattle.tree.specs.Finds.{spread}
 use Rattle.tree.specs.Parts.{NoneBelow, total}
+use Rattle.tree.proofs.Points.{spread-places}
 use Rattle.tree.proofs.Sizes.{spread-above, spread-small}
 use Rattle.tree.proofs.known.Known.of.Goals as goal
 
 pub invariant_of-result : goal.invariant_of-result
 invariant_of-result c =
     let point = c.args.point.now in
-    let e = ap (λ p. p ++ drop (length point) (replicate 9 (pos 0))) c.copy_from_slice.ensures.after ∙ ap (λ z. point ++ z) (drop-replicate (length point) 9 (pos 0)) in
+    let fa : SFits w64 c.number-a.result = search rules in
+    let fb : SFits w64 c.number-b.result = search rules in
+    let fc : SFits w64 c.number-c.result = search rules in
+    let fd : SFits w64 c.number-d.result = search rules in
+    let a = to_z-of_z {w = w64} fa ∙ c.number-a.ensures.value in
+    let b = to_z-of_z {w = w64} fb ∙ c.number-b.ensures.value in
+    let g = to_z-of_z {w = w64} fc ∙ c.number-c.ensures.value in
+    let d = to_z-of_z {w = w64} fd ∙ c.number-d.ensures.value in
+    let e : to_z w64 (of_z w64 c.number-a.result) ∷ to_z w64 (of_z w64 c.number-b.result) ∷ to_z w64 (of_z w64 c.number-c.result) ∷ to_z w64 (of_z w64 c.number-d.result) ∷ pos 0 ∷ pos 0 ∷ pos 0 ∷ pos 0 ∷ pos 0 ∷ [] ≡ spread point = rw (a, b, g, d) (spread-places point c.requires.few) in
     record {
       few = omega arith;
       above = subst NoneBelow (sym e) (spread-above point (9 - length point) c.requires.numbers);
@@ -17,4 +26,12 @@ invariant_of-result c =
 pub returns-clause-setting : goal.returns-clause-setting
 returns-clause-setting c =
     let point = c.args.point.now in
-    ap (λ p. p ++ drop (length point) (replicate 9 (pos 0))) c.copy_from_slice.ensures.after ∙ ap (λ z. point ++ z) (drop-replicate (length point) 9 (pos 0))
+    let fa : SFits w64 c.number-a.result = search rules in
+    let fb : SFits w64 c.number-b.result = search rules in
+    let fc : SFits w64 c.number-c.result = search rules in
+    let fd : SFits w64 c.number-d.result = search rules in
+    let a = to_z-of_z {w = w64} fa ∙ c.number-a.ensures.value in
+    let b = to_z-of_z {w = w64} fb ∙ c.number-b.ensures.value in
+    let g = to_z-of_z {w = w64} fc ∙ c.number-c.ensures.value in
+    let d = to_z-of_z {w = w64} fd ∙ c.number-d.ensures.value in
+    rw (a, b, g, d) (spread-places point c.requires.few)
