@@ -3,7 +3,7 @@ ghost use Rattle.std.specs.Prelude.{◌≡◌, ◌+◌, ◌≤◌, true, ◌++�
 ghost use Rattle.std.specs.Int.{w32};
 ghost use Rattle.page.specs.Pages.{WritesTree};
 ghost use Rattle.page.specs.Records.{all_holdable, all_ten, cost_of, cost_of_all, fits_at, holdable, list_answer, list_written, page_of, pasted, record_length, record_of, ten, written_at};
-ghost use Rattle.page.specs.Words.{bytes};
+ghost use Rattle.page.specs.Words.{all_bytes, bytes, forms_bytes};
 
 use tree::kind::Kind;
 use tree::node::{Node, NodeForm};
@@ -44,12 +44,34 @@ fn form_bytes(form: NodeForm) -> [[u8; 4]; 10]
     form.map(number_bytes)
 }
 
-/// The bytes of six forms, form by form.
-fn leaf_bytes(forms: [NodeForm; 6]) -> [[[u8; 4]; 10]; 6]
-    ensures value { result ≡ map (map bytes) forms }
-    ensures ten { all_ten forms ≡ true }
+/// Writes a form over the bytes that it takes.
+fn put_form(form: &NodeForm, slot: &mut [u8])
+    requires { length slot.old ≡ 40 }
+    ensures left { slot.new ≡ all_bytes form.now }
+    ensures ten { ten form.now ≡ true }
 {
-    forms.map(form_bytes)
+    slot.copy_from_slice(form_bytes(*form).as_flattened());
+}
+
+/// Writes six forms over the bytes that they take, one after another.
+fn put_forms(forms: &[NodeForm; 6], slot: &mut [u8])
+    requires { length slot.old ≡ 240 }
+    ensures left { slot.new ≡ forms_bytes forms.now }
+    ensures ten { all_ten forms.now ≡ true }
+    ensures six { length forms.now ≡ 6 }
+{
+    let [a, b, c, d, e, f] = forms;
+    let (first, rest) = slot.split_at_mut(40);
+    put_form(a, first);
+    let (second, rest) = rest.split_at_mut(40);
+    put_form(b, second);
+    let (third, rest) = rest.split_at_mut(40);
+    put_form(c, third);
+    let (fourth, rest) = rest.split_at_mut(40);
+    put_form(d, fourth);
+    let (fifth, sixth) = rest.split_at_mut(40);
+    put_form(e, fifth);
+    put_form(f, sixth);
 }
 
 /// Inner: writes the record of a node over bytes that are just as many as it takes.
@@ -71,7 +93,7 @@ pub fn put(node: &Node, slot: &mut [u8])
             rest.copy_from_slice(form_bytes(*form).as_flattened());
         }
         Node::Leaf(forms) => {
-            body.copy_from_slice(leaf_bytes(*forms).as_flattened().as_flattened());
+            put_forms(forms, body);
         }
         Node::None => {}
     }

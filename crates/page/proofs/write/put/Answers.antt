@@ -1,9 +1,9 @@
-use Rattle.std.proofs.Common.{rules, ⊎_elim, ◌≡◌, [], ◌∷◌, ◌++◌, ap, ◌∙◌, sym, ap₂}
+use Rattle.std.proofs.Common.{rules, ⊎_elim, ◌≡◌, [], ◌∷◌, ◌++◌, refl, ap, ◌∙◌, sym, ap₂}
 use Rattle.std.specs.List.{flat_map}
 use Rattle.tree.specs.Kinds.{byte_of, kind_of}
-use Rattle.page.specs.Records.{record_of}
-use Rattle.page.specs.Words.{all_bytes, bytes, forms_bytes}
-use Rattle.page.proofs.Written.{first_byte, forms-joined, numbers-joined}
+use Rattle.page.specs.Records.{holdable, record_of}
+use Rattle.page.specs.Words.{all_bytes, bytes}
+use Rattle.page.proofs.Written.{first_byte, numbers-joined}
 use Rattle.page.proofs.write.put.Goals as goal
 
 pub returns-in-New-clause-left : goal.returns-in-New-clause-left
@@ -18,9 +18,11 @@ pub returns-in-Leaf-clause-left : goal.returns-in-Leaf-clause-left
 returns-in-Leaf-clause-left c =
     let front = first_byte _ c.from.result c.split_at_mut-kind.ensures.front_len in
     let k : c.from.result ≡ 5 = c.from.ensures ∙ ap byte_of (c.kind.ensures.answer ∙ ap kind_of c.in-Leaf.is) in
-    let b : c.copy_from_slice-in-Leaf.new.self ≡ forms_bytes c.in-Leaf.forms = c.copy_from_slice-in-Leaf.ensures.after ∙ c.as_flattened-in-Leaf-2.ensures.value
-    ∙ ap (flat_map (λ x. x)) (c.as_flattened-in-Leaf.ensures.value ∙ ap (flat_map (λ x. x)) c.leaf_bytes.ensures.value) ∙ forms-joined c.in-Leaf.forms in
-    ap₂ ◌++◌ (front ∙ ap (λ i. i ∷ []) k) b ∙ sym (ap record_of c.in-Leaf.is)
+    ap₂ ◌++◌ (front ∙ ap (λ i. i ∷ []) k) c.put_forms.ensures.left ∙ sym (ap record_of c.in-Leaf.is)
+
+pub returns-in-Leaf-clause-numbers : goal.returns-in-Leaf-clause-numbers
+returns-in-Leaf-clause-numbers c =
+    ap holdable c.in-Leaf.is ∙ rw (c.put_forms.ensures.six, c.put_forms.ensures.ten) refl
 
 pub returns-in-Keep-clause-left : goal.returns-in-Keep-clause-left
 returns-in-Keep-clause-left c =
