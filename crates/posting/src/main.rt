@@ -164,10 +164,10 @@ fn print_numbers(rt: &HostRuntime, numbers: &[i64]) -> anyhow::Result<()> {
 }
 
 /// Takes the lines up to the first that is refused; empty ones do not count.
-fn take_lines(rt: &HostRuntime, text: &[u8]) -> Result<(), Stop> {
+fn take_lines(rt: &HostRuntime, text: &str) -> Result<(), Stop> {
     let mut reading = None;
-    for line in text.split(|b| *b == b'\n') {
-        let (word, rest) = first_word(line);
+    for line in text.lines() {
+        let (word, rest) = first_word(line.as_bytes());
         if word.is_empty() {
             continue;
         }
@@ -186,7 +186,15 @@ fn take_lines(rt: &HostRuntime, text: &[u8]) -> Result<(), Stop> {
 fn run(rt: &HostRuntime) -> anyhow::Result<()> {
     let mut text = Vec::new(rt.alloc());
     rt.stdin().read_to_end(&mut text)?;
-    match take_lines(rt, text.as_slice()) {
+    let taken = match str::from_utf8(text.as_slice()) {
+        Ok(text) => take_lines(rt, text),
+        // what is no text is no word that a line may have, and is refused where it stands
+        Err(_) => {
+            let text = String::from_utf8_lossy(rt.alloc(), text.as_slice())?;
+            take_lines(rt, text.as_str())
+        }
+    };
+    match taken {
         Ok(()) => Ok(()),
         Err(Stop::Refused(refusal)) => {
             println!(rt; "refused {}", refusal.report().number)?;
