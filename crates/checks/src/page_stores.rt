@@ -22,6 +22,8 @@ fn the_worked_tree_fits_571_bytes(rt: HostRuntime) -> Result<(), Fail> {
     let page = store.into_page();
     assert_eq!(rt; page.len(), 571);
     assert_eq!(rt; check(page.as_slice()), Ok(5));
+    assert_eq!(rt; page.get(0), Some(&1));
+    assert_eq!(rt; page.get(3), Some(&3));
     assert_eq!(rt; page.get(7), Some(&255));
     Ok(())
 }

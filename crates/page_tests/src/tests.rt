@@ -40,6 +40,19 @@ fn the_worked_tree_takes_571_bytes_and_reads_back(rt: HostRuntime) {
         assert_eq!(rt; node_at(&page, i), *node);
     }
     assert_eq!(rt; node_at(&page, 5), Node::None);
+    // the page as it is when it ends with its last record, written node by node
+    let mut whole = [0; 571];
+    let mut at = 0usize;
+    for node in &WORKED {
+        assert_eq!(rt; write(node, &mut whole, at), true);
+        at = at.saturating_add(cost(node));
+    }
+    assert_eq!(rt; at, 571);
+    assert_eq!(rt; check(&whole), Ok(5));
+    for (i, node) in WORKED.iter().enumerate() {
+        assert_eq!(rt; node_at(&whole, i), *node);
+    }
+    assert_eq!(rt; node_at(&whole, 5), Node::None);
 }
 
 /// The record at an offset is this node's, and the next one begins where it should.
