@@ -36,3 +36,12 @@ pub left-six : (a : Result (Option (List ℤ)) Refusal) → six_of (in_six a) �
 left-six (Ok (Some values)) = refl
 left-six (Ok None) = refl
 left-six (Err e) = refl
+
+-- where a tree is passed over, two walks that differ in how many are to be passed over answer as the rules' walk goes on
+pub passed-over : (w v : Walk) (xs ys : List Node) → w.phase ≡ Nodes → v.phase ≡ Nodes → v.n ≡ w.n → v.known ≡ w.known → ((n made : ℕ) (ρ : List ℤ) → walk n w.past made ρ xs ≡ walk n v.past made ρ ys) → answer_of w xs ≡ answer_of v ys
+passed-over w v xs ys from to n known goes =
+    let here : answer_of w xs ≡ in_six (Ok (walk w.n w.past w.known.made w.known.setting xs)) = ap (λ s. answer_in s w xs) from in
+    let there : answer_of v ys ≡ in_six (Ok (walk v.n v.past v.known.made v.known.setting ys)) = ap (λ s. answer_in s v ys) to in
+    let on : walk w.n w.past w.known.made w.known.setting xs ≡ walk w.n v.past w.known.made w.known.setting ys = goes w.n w.known.made w.known.setting in
+    let same : in_six (Ok (walk w.n v.past w.known.made w.known.setting ys)) ≡ in_six (Ok (walk v.n v.past v.known.made v.known.setting ys)) = cc in
+    here ∙ ap (λ a. in_six (Ok a)) on ∙ same ∙ sym there

@@ -1,5 +1,5 @@
 -- What a walk answers from where it has come to.
-use Rattle.std.specs.Prelude.{◌≡◌, ◌+◌, ◌≤◌, Bool, true, false, List, ◌∷◌, replicate, ℤ, pos, Some, None, Ok, Err, Option, Result}
+use Rattle.std.specs.Prelude.{◌≡◌, ℕ, ◌+◌, ◌<◌, ◌≤◌, nat_lt, Bool, true, false, List, ◌∷◌, length, replicate, ℤ, pos, Some, None, Ok, Err, Option, Result}
 use Rattle.base.specs.declared.refusal.Refusal.{Refusal}
 use Rattle.tree.specs.declared.node.Node.{Node}
 use Rattle.tree.specs.declared.state.Walk.{Walk}
@@ -35,6 +35,23 @@ is_over Keeps = false
 is_over Nodes = false
 is_over (Over answer) = true
 
+-- a tree is to be passed over
+abbrev pub passes : Phase → ℕ → Bool
+passes Head past = false
+passes Keeps past = false
+passes Nodes past = nat_lt 0 past
+passes (Over answer) past = false
+
 -- after one node more, what is still to come answers the same
 abbrev pub Follows : Walk → Node → Walk → Type 0
 Follows w node v = (v.past ≤ w.past + 1) × ((rest : List Node) → answer_of w (node ∷ rest) ≡ answer_of v rest)
+
+-- where trees are passed over: after a node `left` trees are to be passed over, or the walk ends with none
+abbrev pub Passes : ℕ → Node → Option ℕ → Type 0
+Passes past node (Some left) = (left ≤ past + 1) × ((n made : ℕ) (ρ : List ℤ) (rest : List Node) → walk n past made ρ (node ∷ rest) ≡ walk n left made ρ rest)
+Passes past node None = (n made : ℕ) (ρ : List ℤ) (rest : List Node) → walk n past made ρ (node ∷ rest) ≡ None
+
+-- the same of the first nodes of a list, of which `rest` is left: nothing, where trees are still to be passed over
+abbrev pub PassesIn : ℕ → List Node → List Node → Option ℕ → Type 0
+PassesIn past list rest (Some left) = (left + length rest ≤ past + length list) × (0 < left → length rest ≡ 0) × ((n made : ℕ) (ρ : List ℤ) → walk n past made ρ list ≡ walk n left made ρ rest)
+PassesIn past list rest None = (n made : ℕ) (ρ : List ℤ) → walk n past made ρ list ≡ None

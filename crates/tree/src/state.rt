@@ -34,9 +34,9 @@ pub struct Walk<'a> {
 }
 
 impl<'a> Walk<'a> {
-    ghost use Rattle.std.specs.Prelude.{◌+◌, ◌<◌, true, List, []};
+    ghost use Rattle.std.specs.Prelude.{◌+◌, ◌-◌, ◌<◌, true, length, List, []};
     ghost use Rattle.tree.specs.Finds.{found_in, said_of};
-    ghost use Rattle.tree.specs.Walks.{Follows, Phase, answer_of, in_six, is_over, six_of};
+    ghost use Rattle.tree.specs.Walks.{Follows, Passes, PassesIn, Phase, answer_of, in_six, is_over, passes, six_of};
     ghost use Rattle.tree.specs.Walks.{Head as AtHead, Nodes as AtNodes, Over as IsOver};
     ghost use Rattle.tree.specs.declared.node.Node.{Node as TreeNode};
 
@@ -44,6 +44,7 @@ impl<'a> Walk<'a> {
     pub fn new(point: &'a [i64]) -> Self
         ensures start { (list : List TreeNode) → answer_of result list ≡ in_six (found_in list point.now) }
         ensures past { result.past ≡ 0 }
+        ensures phase { result.phase ≡ AtHead }
     {
         Walk {
             point,
@@ -63,7 +64,7 @@ impl<'a> Walk<'a> {
     }
 
     /// Sees the first node.
-    fn see_head(&mut self, node: &Node)
+    pub(crate) fn see_head(&mut self, node: &Node)
         requires phase { self.old.phase ≡ AtHead }
         ensures follows { Follows self.old node.now self.new }
     {
@@ -111,6 +112,25 @@ impl<'a> Walk<'a> {
         }
     }
 
+    /// How many trees are to be passed over after a node, where `past` are before it; `None` where the walk ends at it.
+    fn passed(past: usize, node: &Node) -> Option<usize>
+        requires some { 0 < past }
+        requires room { past < 18446744073709551615 }
+        ensures passes { Passes past node.now result }
+    {
+        if matches!(node, Node::Head { n: _, p: _ } | Node::Keep(_)) {
+            return None;
+        }
+        // a number for each kind of the others and no jump: which of them comes next is hard to foresee
+        let hanging = match node {
+            Node::Split(_) => 2,
+            Node::New { d: _, form: _ } => 1,
+            // a leaf, or none
+            _ => 0,
+        };
+        Some(past - 1 + hanging)
+    }
+
     /// Sees a node of a tree that is passed over.
     fn pass(&mut self, node: &Node)
         requires phase { self.old.phase ≡ AtNodes }
@@ -118,15 +138,52 @@ impl<'a> Walk<'a> {
         requires room { self.old.past < 18446744073709551615 }
         ensures follows { Follows self.old node.now self.new }
     {
-        match node {
-            Node::Split(_) => self.past += 1,
-            Node::New { d: _, form: _ } => (),
-            Node::Leaf(_) | Node::None => self.past -= 1,
-            Node::Head { n: _, p: _ } | Node::Keep(_) => self.end(Ok(None)),
+        match Self::passed(self.past, node) {
+            Some(past) => self.past = past,
+            None => self.end(Ok(None)),
         }
     }
 
-    // inlined at both its calls: the walk of a question then stays out of memory for the most part
+    /// Passes over a list's nodes until no tree is to be passed over: the nodes that are left, and how many trees are then to
+    /// be passed over; `None` where the walk ends.
+    fn passed_in(past: usize, nodes: &[Node]) -> (&[Node], Option<usize>)
+        requires some { 0 < past }
+        requires room { past + length nodes.now < 18446744073709551616 }
+        ensures fewer { length result.0.now ≤ length nodes.now - 1 }
+        ensures passes { PassesIn past nodes.now result.0.now result.1 }
+    {
+        // the count is a number of its own, so that it need not go through memory at each node
+        let mut left = past;
+        let mut rest = nodes;
+        while let [node, after @ ..] = rest {
+            rest = after;
+            match Self::passed(left, node) {
+                Some(0) => return (rest, Some(0)),
+                Some(next) => left = next,
+                None => return (rest, None),
+            }
+        }
+        (rest, Some(left))
+    }
+
+    /// Sees a list's nodes until no tree is to be passed over or the walk ends, and answers the nodes that are left.
+    fn pass_all<'n>(&mut self, nodes: &'n [Node]) -> &'n [Node]
+        requires phase { self.old.phase ≡ AtNodes }
+        requires some { 0 < self.old.past }
+        requires room { self.old.past + length nodes.now < 18446744073709551616 }
+        ensures fewer { length result.now ≤ length nodes.now - 1 }
+        ensures past { self.new.past + length result.now ≤ self.old.past + length nodes.now }
+        ensures follows { answer_of self.old nodes.now ≡ answer_of self.new result.now }
+    {
+        let (rest, left) = Self::passed_in(self.past, nodes);
+        match left {
+            Some(past) => self.past = past,
+            None => self.end(Ok(None)),
+        }
+        rest
+    }
+
+    // inlined at both its calls: a call for each node took longer
     /// Sees a node that the walk goes through.
     #[inline(always)]
     fn visit(&mut self, node: &Node)
@@ -166,6 +223,36 @@ impl<'a> Walk<'a> {
             Phase::Nodes if self.past > 0 => self.pass(node),
             Phase::Nodes => self.visit(node),
             Phase::Over(_) => (),
+        }
+    }
+
+    /// Whether a tree is to be passed over.
+    fn passes(&self) -> bool
+        ensures value { result ≡ passes self.now.phase self.now.past }
+        ensures facts { result ≡ true → (self.now.phase ≡ AtNodes) × (0 < self.now.past) }
+    {
+        match self.phase {
+            Phase::Nodes => self.past > 0,
+            Phase::Head | Phase::Keeps | Phase::Over(_) => false,
+        }
+    }
+
+    /// Sees a list's nodes, until the answer is the same whatever nodes are still to come.
+    pub(crate) fn see_all(&mut self, nodes: &[Node])
+        requires room { self.old.past + length nodes.now < 18446744073709551616 }
+        ensures answer { answer_of self.new [] ≡ answer_of self.old nodes.now }
+    {
+        let mut rest = nodes;
+        while let [node, after @ ..] = rest {
+            if self.is_over() {
+                return;
+            }
+            if self.passes() {
+                rest = self.pass_all(rest);
+            } else {
+                self.see(node);
+                rest = after;
+            }
         }
     }
 

@@ -69,11 +69,10 @@ pub fn find(nodes: &[Node], point: &[i64], place: &mut [i64; 6]) -> Result<Found
     ensures limits { AnswersWithinLimits nodes.now point.now }
 {
     let mut walk = Walk::new(point);
-    for node in nodes {
-        if walk.is_over() {
-            return walk.tell(place);
-        }
-        walk.see(node);
+    if let [head, rest @ ..] = nodes {
+        // by itself, for speed: what is then still to come begins below the head
+        walk.see_head(head);
+        walk.see_all(rest);
     }
     walk.tell(place)
 }
