@@ -1,5 +1,5 @@
 -- What a walk answers from where it has come to.
-use Rattle.std.specs.Prelude.{◌≡◌, ℕ, ◌+◌, ◌<◌, ◌≤◌, nat_lt, Bool, true, false, List, ◌∷◌, length, replicate, ℤ, pos, Some, None, Ok, Err, Option, Result}
+use Rattle.std.specs.Prelude.{◌≡◌, ℕ, ◌+◌, ◌<◌, ◌≤◌, Bool, true, false, List, ◌∷◌, length, replicate, ℤ, pos, Some, None, Ok, Err, Option, Result}
 use Rattle.base.specs.declared.refusal.Refusal.{Refusal}
 use Rattle.tree.specs.declared.node.Node.{Node}
 use Rattle.tree.specs.declared.state.Walk.{Walk}
@@ -34,13 +34,6 @@ is_over Head = false
 is_over Keeps = false
 is_over Nodes = false
 is_over (Over answer) = true
-
--- a tree is to be passed over
-abbrev pub passes : Phase → ℕ → Bool
-passes Head past = false
-passes Keeps past = false
-passes Nodes past = nat_lt 0 past
-passes (Over answer) past = false
 
 -- after one node more, what is still to come answers the same
 abbrev pub Follows : Walk → Node → Walk → Type 0

@@ -36,7 +36,7 @@ pub struct Walk<'a> {
 impl<'a> Walk<'a> {
     ghost use Rattle.std.specs.Prelude.{◌+◌, ◌-◌, ◌<◌, true, length, List, []};
     ghost use Rattle.tree.specs.Finds.{found_in, said_of};
-    ghost use Rattle.tree.specs.Walks.{Follows, Passes, PassesIn, Phase, answer_of, in_six, is_over, passes, six_of};
+    ghost use Rattle.tree.specs.Walks.{Follows, Passes, PassesIn, Phase, answer_of, in_six, is_over, six_of};
     ghost use Rattle.tree.specs.Walks.{Head as AtHead, Nodes as AtNodes, Over as IsOver};
     ghost use Rattle.tree.specs.declared.node.Node.{Node as TreeNode};
 
@@ -183,7 +183,7 @@ impl<'a> Walk<'a> {
         rest
     }
 
-    // inlined at both its calls: a call for each node took longer
+    // inlined wherever a walk goes from node to node: a call for each takes longer
     /// Sees a node that the walk goes through.
     #[inline(always)]
     fn visit(&mut self, node: &Node)
@@ -226,17 +226,6 @@ impl<'a> Walk<'a> {
         }
     }
 
-    /// Whether a tree is to be passed over.
-    fn passes(&self) -> bool
-        ensures value { result ≡ passes self.now.phase self.now.past }
-        ensures facts { result ≡ true → (self.now.phase ≡ AtNodes) × (0 < self.now.past) }
-    {
-        match self.phase {
-            Phase::Nodes => self.past > 0,
-            Phase::Head | Phase::Keeps | Phase::Over(_) => false,
-        }
-    }
-
     /// Sees a list's nodes, until the answer is the same whatever nodes are still to come.
     pub(crate) fn see_all(&mut self, nodes: &[Node])
         requires room { self.old.past + length nodes.now < 18446744073709551616 }
@@ -244,14 +233,18 @@ impl<'a> Walk<'a> {
     {
         let mut rest = nodes;
         while let [node, after @ ..] = rest {
-            if self.is_over() {
-                return;
-            }
-            if self.passes() {
-                rest = self.pass_all(rest);
-            } else {
-                self.see(node);
-                rest = after;
+            match self.phase {
+                Phase::Over(_) => return,
+                Phase::Nodes if self.past > 0 => rest = self.pass_all(rest),
+                Phase::Nodes => {
+                    self.visit(node);
+                    rest = after;
+                }
+                // before the nodes below the keeps
+                _ => {
+                    self.see(node);
+                    rest = after;
+                }
             }
         }
     }
